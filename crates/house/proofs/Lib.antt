@@ -1,0 +1,5 @@
+pub mod RefusalLaws
+pub mod NumberLaws
+pub mod BitLaws
+pub mod SetLaws
+pub mod OneReply
