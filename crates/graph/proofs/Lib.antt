@@ -1,0 +1,15 @@
+pub mod Paths
+pub mod Trail
+pub mod LastExit
+pub mod Equivalences
+pub mod Rank
+pub mod Pigeon
+pub mod Peel
+pub mod Packet
+pub mod Naming
+pub mod Decide
+pub mod OneMore
+pub mod Sums
+pub mod SearchLaws
+pub mod PeelingLaws
+pub mod OneReply

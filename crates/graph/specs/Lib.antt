@@ -1,0 +1,4 @@
+pub mod Graph
+pub mod Faults
+pub mod Search
+pub mod Working
