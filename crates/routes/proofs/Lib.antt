@@ -1,0 +1,6 @@
+pub mod PairLaws
+pub mod RuleLaws
+pub mod WalkLaws
+pub mod WalkPartsLaws
+pub mod JumpLaws
+pub mod TestLaws
