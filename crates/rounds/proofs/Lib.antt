@@ -1,0 +1,13 @@
+pub mod Bridge
+pub mod Trails
+pub mod Demand3
+pub mod NamedLaws
+pub mod OneReply
+pub mod Demand2
+pub mod ScheduleLaws
+pub mod OldRoute
+pub mod FaultLaws
+pub mod RoundLaws
+pub mod NamingLaws
+pub mod TestLaws
+pub mod ReplyLaws
