@@ -1,0 +1,4 @@
+pub mod Plan
+pub mod Replies
+pub mod Working
+pub mod Known

@@ -1,0 +1,2 @@
+// The planner.
+pub mod plan;
