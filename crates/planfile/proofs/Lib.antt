@@ -1,0 +1,11 @@
+pub mod OrderLaws
+pub mod RecordLaws
+pub mod FileLaws
+pub mod StoreLaws
+pub mod ReadLaws
+pub mod WriteLaws
+pub mod LengthLaws
+pub mod OneContent
+pub mod OneReply
+pub mod RoundTrip
+pub mod Known

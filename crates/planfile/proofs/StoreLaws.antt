@@ -1,0 +1,112 @@
+-- Laws on bytes stored in lent memory.
+--
+--   sets-append      == two lists of bytes stored one behind the other
+--   sets-more        == one byte more is stored
+--   sets-front       == bytes stored from the front
+--   encode-one       == one entry as bytes
+--   overlaid-none    == no entry in front: the bytes as they are
+--   length-overlaid  == lent memory keeps its length
+--   overlaid-bytes   == whole entries stored from the front are their entries in front
+--   overlaid-more    == bytes stored behind the entries in front are more entries in front
+--   overlaid-put     == so is an entry that is put behind them
+--   overlaid-front   == the entries in front are their bytes
+--   overlaid-back    == and those of whole entries are these
+use Prim.Native.Nat.{ℕ, suc, _+_, _*_, _<_, _≤_}
+use mathlib.Core.Path.{_≡_, refl, sym, ap, _∙_}
+use mathlib.Core.List.{List, [], _∷_, _++_}
+use native.Mathlib.Nat.{add-zero, zero-add}
+use native.Mathlib.Omega.{arith}
+use lib.ListN.{length, getD, take, drop, set, length-append, length-drop}
+use lib.Seq.{length-take-le, sets, sets-eq, take-suc, take-at}
+use Rattle.house.specs.Numbers.{bytes, entries, encode, putNumber, Whole}
+use Rattle.house.proofs.NumberLaws.{Under, length-encode, length-entries, encode-entries, putNumber-in}
+use Rattle.plans.specs.Replies.{overlaid}
+
+pub sets-append : (a b l : List ℕ) (i : ℕ) → sets l i (a ++ b) ≡ sets (sets l i a) (i + length a) b
+sets-append [] b l i = rw (add-zero i)
+sets-append (x ∷ a) b l i =
+    let e : suc i + length a ≡ i + suc (length a) = omega arith in
+    sets-append a b (set l i x) (suc i) ∙ ap (λ (k : ℕ). sets (sets (set l i x) (suc i) a) k b) e
+
+pub sets-more :
+    (l s : List ℕ) (at i : ℕ)
+    → i < length s
+    → set (sets l at (take i s)) (at + i) (getD s i 0) ≡ sets l at (take (suc i) s)
+sets-more l s at i h =
+    rw (take-suc s i 0 h, sets-append (take i s) (getD s i 0 ∷ []) l at, length-take-le i s (omega arith))
+
+pub sets-front : (l vs : List ℕ) → length vs ≤ length l → sets l 0 vs ≡ vs ++ drop (length vs) l
+sets-front l vs h = sets-eq vs l 0 (omega arith) ∙ rw (zero-add (length vs))
+
+pub overlaid-none : (b : List ℕ) → b ≡ overlaid [] b
+unfolding overlaid encode
+overlaid-none b = refl
+
+overlaid-is : (xs b : List ℕ) → 2 * length xs ≤ length b → overlaid xs b ≡ sets b 0 (encode 2 xs)
+unfolding overlaid
+overlaid-is xs b h =
+    let e = length-encode 2 xs in
+    rw (sym e) (sym (sets-front b (encode 2 xs) (omega arith)))
+
+encode-append : (xs ys : List ℕ) → encode 2 (xs ++ ys) ≡ encode 2 xs ++ encode 2 ys
+unfolding encode
+encode-append [] ys = refl
+encode-append (x ∷ xs) ys = ap (λ (l : List ℕ). bytes 2 x ++ l) (encode-append xs ys)
+
+-- bytes of entries stored behind the entries in front
+overlaid-behind :
+    (xs ys b : List ℕ)
+    → 2 * length xs + 2 * length ys ≤ length b
+    → sets (overlaid xs b) (2 * length xs) (encode 2 ys) ≡ overlaid (xs ++ ys) b
+overlaid-behind xs ys b h =
+    let n : length (xs ++ ys) ≡ length xs + length ys = length-append xs ys in
+    let e : 2 * length xs ≡ 0 + length (encode 2 xs) = omega (arith, length-encode 2 xs) in
+    ap (λ (l : List ℕ). sets l (2 * length xs) (encode 2 ys)) (overlaid-is xs b (omega arith))
+    ∙ ap (λ (k : ℕ). sets (sets b 0 (encode 2 xs)) k (encode 2 ys)) e
+    ∙ sym (sets-append (encode 2 xs) (encode 2 ys) b 0)
+    ∙ ap (sets b 0) (sym (encode-append xs ys))
+    ∙ sym (overlaid-is (xs ++ ys) b (omega arith))
+
+pub length-overlaid : (xs b : List ℕ) → 2 * length xs ≤ length b → length (overlaid xs b) ≡ length b
+unfolding overlaid
+length-overlaid xs b h =
+    omega (arith, length-append (encode 2 xs) (drop (2 * length xs) b), length-encode 2 xs, length-drop (2 * length xs) b)
+
+pub overlaid-bytes :
+    (s b : List ℕ) → Whole s → Under 256 s → length s ≤ length b → sets b 0 s ≡ overlaid (entries s) b
+overlaid-bytes s b w u h =
+    let e = encode-entries s w u in
+    ap (sets b 0) (sym e) ∙ sym (overlaid-is (entries s) b (omega (arith, length-entries s)))
+
+pub overlaid-more :
+    (xs s b : List ℕ) (at : ℕ)
+    → at ≡ 2 * length xs
+    → Whole s
+    → Under 256 s
+    → at + length s ≤ length b
+    → sets (overlaid xs b) at s ≡ overlaid (xs ++ entries s) b
+overlaid-more xs s b at e w u h =
+    rw e (ap (sets (overlaid xs b) (2 * length xs)) (sym (encode-entries s w u)) ∙ overlaid-behind xs (entries s) b (omega (arith, length-entries s)))
+
+pub encode-one : (x : ℕ) → encode 2 (x ∷ []) ≡ bytes 2 x
+unfolding encode
+encode-one x = refl
+
+pub overlaid-put :
+    (xs b : List ℕ) (i x : ℕ)
+    → i ≡ length xs
+    → 2 * i + 2 ≤ length b
+    → putNumber 2 (overlaid xs b) i x ≡ overlaid (xs ++ (x ∷ [])) b
+overlaid-put xs b i x e h =
+    putNumber-in 2 (overlaid xs b) i x (omega (arith, length-overlaid xs b (omega arith)))
+    ∙ rw (e, sym (encode-one x)) (overlaid-behind xs (x ∷ []) b (omega arith))
+
+pub overlaid-front : (xs b : List ℕ) → take (2 * length xs) (overlaid xs b) ≡ encode 2 xs
+unfolding overlaid
+overlaid-front xs b = take-at (encode 2 xs) (drop (2 * length xs) b) (2 * length xs) (length-encode 2 xs)
+
+pub overlaid-back : (s b : List ℕ) → Whole s → Under 256 s → overlaid (entries s) b ≡ s ++ drop (length s) b
+unfolding overlaid
+overlaid-back s b w u =
+    let e : 2 * length (entries s) ≡ length s = omega (arith, length-entries s, w .even) in
+    rw (encode-entries s w u, e)
