@@ -1,0 +1,118 @@
+/*
+ * A small controller. A tenant's path moves from the old route 1 2 3 to the new route 1 4 3: it checks a schedule and tells its
+ * rounds, shows why another schedule is refused, and follows a packet through one state.
+ *
+ *     cc -Iinclude examples/controller.c target/staticlib/libjiwasampu.a -o controller
+ */
+#include "jiwasampu.h"
+
+#include <stdio.h>
+#include <string.h>
+
+/* Two bytes to an id, the lower first. */
+static const uint8_t old_route[] = {1, 0, 2, 0, 3, 0};
+static const uint8_t new_route[] = {1, 0, 4, 0, 3, 0};
+
+enum { STRONG = 0, NONE = -1 };
+
+struct reply {
+    unsigned number, where, place, node;
+};
+
+static struct reply lanes(uint64_t r)
+{
+    struct reply reply = {r & 0xffff, r >> 16 & 0xffff, r >> 32 & 0xffff, r >> 48 & 0xffff};
+    return reply;
+}
+
+static int entry(const uint8_t *list, size_t i)
+{
+    return list[2 * i] | list[2 * i + 1] << 8;
+}
+
+/* The id after a node on a route of `length` bytes. */
+static int rule(const uint8_t *route, size_t length, int node)
+{
+    for (size_t i = 0; i + 1 < length / 2; i++)
+        if (entry(route, i) == node)
+            return entry(route, i + 1);
+    return NONE;
+}
+
+static void print_set(const uint8_t set[64])
+{
+    const char *before = "{";
+    for (unsigned id = 0; id < 512; id++)
+        if (set[id / 8] >> id % 8 & 1) {
+            printf("%s%u", before, id);
+            before = ",";
+        }
+    puts("}");
+}
+
+/* What each node of each round is told. */
+static void print_rounds(const uint8_t *ids, const uint8_t *sizes, unsigned rounds)
+{
+    size_t at = 0;
+    for (unsigned t = 0; t < rounds; t++) {
+        printf("round %u:", t + 1);
+        for (int k = entry(sizes, t); k > 0; k--, at++) {
+            int node = entry(ids, at);
+            int from = rule(old_route, sizeof old_route, node), to = rule(new_route, sizeof new_route, node);
+            if (to == NONE)
+                printf(" node %d removes its rule to %d;", node, from);
+            else if (from == NONE)
+                printf(" node %d installs a rule to %d;", node, to);
+            else
+                printf(" node %d switches from %d to %d;", node, from, to);
+        }
+        puts(" wait for all replies");
+    }
+}
+
+static void check(const uint8_t *ids, size_t ids_length, const uint8_t *sizes, size_t sizes_length)
+{
+    uint8_t set[64];
+    struct reply r = lanes(jiwasampu_check(old_route, sizeof old_route, new_route, sizeof new_route, STRONG, ids, ids_length,
+                                           sizes, sizes_length, set, sizeof set));
+    if (r.number == 0) {
+        printf("safe: %u rounds, %u nodes are due\n", r.where, r.place);
+        print_rounds(ids, sizes, r.where);
+    } else if (r.number == 16 || r.number == 17) {
+        printf("refused: %u, packets %s in round %u while of its nodes exactly these have changed: ", r.number,
+               r.number == 16 ? "drop" : "loop", r.where);
+        print_set(set);
+    } else {
+        printf("refused: %u, where %u, place %u\n", r.number, r.where, r.place);
+    }
+}
+
+static void walk(const uint8_t set[64])
+{
+    struct reply r = lanes(jiwasampu_walk(old_route, sizeof old_route, new_route, sizeof new_route, set, 64));
+    if (r.number != 0)
+        printf("refused: %u, where %u, place %u\n", r.number, r.where, r.place);
+    else if (r.where == 0)
+        printf("a packet arrives, hops made: %u\n", r.place);
+    else
+        printf("a packet %s at node %u, hops made: %u\n", r.where == 1 ? "is dropped" : "loops", r.node, r.place);
+}
+
+int main(void)
+{
+    static const uint8_t good_ids[] = {4, 0, 1, 0, 2, 0}, good_sizes[] = {1, 0, 1, 0, 1, 0};
+    static const uint8_t bad_ids[] = {1, 0, 4, 0, 2, 0}, bad_sizes[] = {2, 0, 1, 0};
+    uint8_t set[64];
+
+    puts("rounds {4} {1} {2}");
+    check(good_ids, sizeof good_ids, good_sizes, sizeof good_sizes);
+
+    puts("rounds {1,4} {2}");
+    check(bad_ids, sizeof bad_ids, bad_sizes, sizeof bad_sizes);
+
+    puts("state {1}");
+    memset(set, 0, sizeof set);
+    set[1 / 8] |= 1 << 1 % 8;
+    walk(set);
+    return 0;
+}
