@@ -31,7 +31,8 @@ use Rattle.planfile.specs.declared.write.WriteReply.the-variants.{Writte
 use Rattle.house.proofs.RefusalLaws.{first-not-clear}
 use Rattle.planfile.proofs.RecordLaws.{expects-kind}
 use Rattle.planfile.proofs.FileLaws.{length-file, holds-one, holds-right, holds-old, holds-new}
-use Rattle.planfile.proofs.StoreLaws.{overlaid-front, overlaid-back}
+use Rattle.plans.proofs.CheckAccepts.{front-overlaid}
+use Rattle.planfile.proofs.StoreLaws.{overlaid-back}
 use Rattle.planfile.proofs.ReadLaws.{read-clear}
 use Rattle.planfile.proofs.WriteLaws.{upTo-fits}
 use Rattle.planfile.proofs.LengthLaws.{file-most}
@@ -49,10 +50,10 @@ pub record ReadBack (old new ids sizes lo ln li lz o' n' i' z' : List ℕ) : Typ
 -- the entries that were read
 read-entries :
     (xs b : List ℕ) {k : ℕ} {b' : List ℕ} → k ≡ length xs → b' ≡ overlaid xs b → Under 65536 xs → entries (front k b') ≡ xs
-read-entries xs b e d u = rw (e, d, overlaid-front xs b) (entries-encode xs u)
+read-entries xs b e d u = rw (e, d, front-overlaid xs b) (entries-encode xs u)
 
 read-whole : (xs b : List ℕ) {k : ℕ} {b' : List ℕ} → k ≡ length xs → b' ≡ overlaid xs b → Whole (front k b')
-read-whole xs b e d = record { even = rw (e, d, overlaid-front xs b) (omega (arith, length-encode 2 xs)) }
+read-whole xs b e d = record { even = rw (e, d, front-overlaid xs b) (omega (arith, length-encode 2 xs)) }
 
 -- sizes that add up to few ids are two-byte numbers
 sizes-low : (zs : List ℕ) (m : ℕ) → sum zs < m → Under m zs

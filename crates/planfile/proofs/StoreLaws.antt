@@ -9,7 +9,6 @@
 --   overlaid-bytes   == whole entries stored from the front are their entries in front
 --   overlaid-more    == bytes stored behind the entries in front are more entries in front
 --   overlaid-put     == so is an entry that is put behind them
---   overlaid-front   == the entries in front are their bytes
 --   overlaid-back    == and those of whole entries are these
 use Prim.Native.Nat.{ℕ, suc, _+_, _*_, _<_, _≤_}
 use mathlib.Core.Path.{_≡_, refl, sym, ap, _∙_}
@@ -20,6 +19,7 @@ use lib.ListN.{length, getD, take, drop, set, length-append, length-drop}
 use lib.Seq.{length-take-le, sets, sets-eq, take-suc, take-at}
 use Rattle.house.specs.Numbers.{bytes, entries, encode, putNumber, Whole}
 use Rattle.house.proofs.NumberLaws.{Under, length-encode, length-entries, encode-entries, putNumber-in}
+use Rattle.plans.proofs.WriteLaws.{overlaid-more as overlaid-one}
 use Rattle.plans.specs.Replies.{overlaid}
 
 pub sets-append : (a b l : List ℕ) (i : ℕ) → sets l i (a ++ b) ≡ sets (sets l i a) (i + length a) b
@@ -97,13 +97,7 @@ pub overlaid-put :
     → i ≡ length xs
     → 2 * i + 2 ≤ length b
     → putNumber 2 (overlaid xs b) i x ≡ overlaid (xs ++ (x ∷ [])) b
-overlaid-put xs b i x e h =
-    putNumber-in 2 (overlaid xs b) i x (omega (arith, length-overlaid xs b (omega arith)))
-    ∙ rw (e, sym (encode-one x)) (overlaid-behind xs (x ∷ []) b (omega arith))
-
-pub overlaid-front : (xs b : List ℕ) → take (2 * length xs) (overlaid xs b) ≡ encode 2 xs
-unfolding overlaid
-overlaid-front xs b = take-at (encode 2 xs) (drop (2 * length xs) b) (2 * length xs) (length-encode 2 xs)
+overlaid-put xs b i x e h = rw e (overlaid-one xs b x (omega (arith, length-overlaid xs b (omega arith))))
 
 pub overlaid-back : (s b : List ℕ) → Whole s → Under 256 s → overlaid (entries s) b ≡ s ++ drop (length s) b
 unfolding overlaid

@@ -30,7 +30,7 @@ use Rattle.planfile.specs.File.{record-of, roundRecords, fileOf}
 use Rattle.planfile.specs.Parts.{RecordRoom, PutRecord, RoundsRoom, PutRounds, Writable, PutFile}
 use Rattle.planfile.specs.Replies.{WriteFault, short-file, change, Writes, refused, written}
 use Rattle.planfile.specs.declared.write.WriteReply.the-variants.{Written, NotWritten}
-use Rattle.planfile.proofs.OrderLaws.{unfit-first}
+use Rattle.house.proofs.RefusalLaws.{unfit-first}
 use Rattle.planfile.proofs.RecordLaws.{record-head}
 use Rattle.planfile.proofs.FileLaws.{rounds-snoc, length-rounds, length-file, file-is}
 use Rattle.planfile.proofs.StoreLaws.{sets-append, sets-front}

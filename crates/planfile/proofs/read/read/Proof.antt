@@ -3,7 +3,7 @@
 use borrow.Author.Needs.{needs}
 use Rattle.planfile.specs.Parts.{Room}
 use Rattle.planfile.specs.Replies.{short-old, short-new, short-ids, short-sizes}
-use Rattle.planfile.proofs.OrderLaws.{unfit-first}
+use Rattle.house.proofs.RefusalLaws.{unfit-first}
 use Rattle.planfile.proofs.ReadLaws.{refuses, first-long, scanned-wrong, scanned-fine}
 use Rattle.planfile.proofs.read.read.Statement.{statement}
 use Rattle.planfile.proofs.read.read.Tie as tie
