@@ -90,7 +90,21 @@ fn median(mut times: Vec<f64>) -> f64 {
     times[times.len() / 2]
 }
 
-fn timed(planner: Planner, c: &Wish) -> f64 {
+/// Runs f with the stack so many frames of 80 bytes or more further down: what lies where in the caches varies from turn to
+/// turn, alike for all planners, and not only from run to run.
+#[inline(never)]
+fn deeper(frames: usize, f: &mut dyn FnMut() -> f64) -> f64 {
+    let pad = black_box([0u8; 64]);
+    let took = if frames == 0 { f() } else { deeper(frames - 1, f) };
+    black_box(&pad);
+    took
+}
+
+fn timed(planner: Planner, c: &Wish, turn: usize) -> f64 {
+    deeper(turn % 61, &mut || once(planner, c))
+}
+
+fn once(planner: Planner, c: &Wish) -> f64 {
     let (mut ids, mut sizes) = ([0; 1024], [0; 1024]);
     let began = Instant::now();
     black_box(planner(black_box(c), &mut ids, &mut sizes));
@@ -106,11 +120,11 @@ fn time() {
         assert_eq!(number, 0, "{name}");
         // the first two alternate; the third takes so long that it would disturb them
         let (mut a, mut b) = (vec![], vec![]);
-        for _ in 0..TURNS {
-            a.push(timed(proved, &c));
-            b.push(timed(same, &c));
+        for turn in 0..TURNS {
+            a.push(timed(proved, &c, turn));
+            b.push(timed(same, &c, turn));
         }
-        let w = (0..turns).map(|_| timed(whole, &c)).collect();
+        let w = (0..turns).map(|turn| timed(whole, &c, turn)).collect();
         let [a, b, w] = [a, b, w].map(|list| median(list) / 1000.0);
         worst = worst.max(a / b);
         println!("{name:28} {rounds:6} {a:11.1} {b:11.1} {w:11.1} {:7.2} {:8.3}", a / b, a / w);
