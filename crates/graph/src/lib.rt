@@ -1,3 +1,4 @@
+use house::wide;
 ghost use mathlib.Core.Path.{_≡_};
 ghost use Prim.Native.Nat.{_+_, _<_};
 ghost use mathlib.Core.Bool.{true, false};
@@ -5,13 +6,6 @@ ghost use lib.ListN.{length, getD};
 ghost use Rattle.graph.specs.Search.{Reached, Leads, Cyclic};
 ghost use Rattle.graph.specs.Working.{one, other, Tables, Room, Visited, Begun};
 ghost use Rattle.graph.specs.Working.{among, hits, Plus, Offered, Peel, Peeling, Tally, Peeled};
-
-// A next value as an index.
-pub fn wide(x: u16) -> usize
-    ensures { λ r. ⌜ r ≡ x ⌝ }
-{
-    x as usize
-}
 
 // The old next value of v, or the new one where v's choice is new only.
 fn one(old: &[u16], new: &[u16], choice: &[u8], v: usize) -> usize

@@ -13,7 +13,7 @@ use Rattle.house.specs.declared.Refusal.{Refusal}
 use Rattle.house.specs.declared.Told.{Told}
 use Rattle.house.proofs.SetLaws.{lowest-one}
 
-pub one-lowest : {ws : List ℕ} {r q : ℕ} → Lowest ws r → Lowest ws q → r ≡ q
+pub one-lowest : {ws : List ℕ} {from r q : ℕ} → Lowest ws from r → Lowest ws from q → r ≡ q
 one-lowest = lowest-one
 
 pub one-told : (r : Refusal) (t u : Told) → (t .number ≡ number r) × (t .site ≡ site r) × (t .place ≡ place r)

@@ -15,7 +15,7 @@
 --   size-count       == the size is the number of members
 --   none-more, lowest-here, lowest-none == looking for the lowest id word by word
 --   lowest-one       == a set has one lowest id
-use Prim.Native.Nat.{ℕ, zero, suc, _+_, _*_, _/_, _%_, _^_, _<_, _≤_}
+use Prim.Native.Nat.{ℕ, zero, suc, _+_, _-_, _*_, _/_, _%_, _^_, _<_, _≤_}
 use mathlib.Core.Path.{_≡_, refl, sym, ap, ap₂, _∙_}
 use mathlib.Core.Bool.{Bool, true, false, cond}
 use mathlib.Core.List.{List, [], _∷_}
@@ -25,7 +25,7 @@ use native.Mathlib.Decide.{decLt, ℕ-discrete}
 use native.Mathlib.Omega.{arith}
 use lib.Bits.{bitOr}
 use lib.Count.{ones, trailingZeros}
-use lib.Pow.{pow-lt}
+use lib.Pow.{pow-lt, shr-shr}
 use lib.ListN.{length, getD, set, replicate, length-set, List·getD-eq-default}
 use lib.Seq.{set-out, getD-set-same, getD-set-other, set-getD, ext-getD}
 use Rattle.house.specs.Numbers.{words, eight}
@@ -235,37 +235,50 @@ size-count {ws} s =
     let e : 64 * length ws ≡ 512 = omega (arith, s .eight-long) in
     size-count-all ws (s .words-fit) ∙ ap (λ (n : ℕ). countBelow n (has ws)) e
 
--- an id of word k
-has-in : (ws : List ℕ) (k i : ℕ) → i / 64 ≡ k → has ws i ≡ bit (getD ws k 0) (i % 64)
-unfolding has
-has-in ws k i e = rw e
+-- an id of the word that `at` lies in, as a bit of that word without its bits below `at`
+has-beyond : (ws : List ℕ) (at i : ℕ) → at % 64 + i < 64 → has ws (at + i) ≡ bit (getD ws (at / 64) 0 / 2 ^ (at % 64)) i
+unfolding has bit
+has-beyond ws at i h =
+    let d : (at + i) / 64 ≡ at / 64 = omega arith in
+    let m : (at + i) % 64 ≡ at % 64 + i = omega arith in
+    rw (d, m, shr-shr (getD ws (at / 64) 0) (at % 64) i)
 
-pub none-more : (ws : List ℕ) (k z : ℕ) → ((i : ℕ) → i < 64 * k → has ws i ≡ false) → z ≡ trailingZeros 64 (getD ws k 0)
-    → (i : ℕ) → i < 64 * k + z → i < 64 * (k + 1) → has ws i ≡ false
-none-more ws k z f e i h l = go (decLt i (64 * k))
+pub none-more : (ws : List ℕ) (from at z : ℕ) → ((i : ℕ) → from ≤ i → i < at → has ws i ≡ false)
+    → z ≡ trailingZeros 64 (getD ws (at / 64) 0 / 2 ^ (at % 64))
+    → (i : ℕ) → from ≤ i → i < at + z → i < 64 * (at / 64) + 64 → has ws i ≡ false
+none-more ws from at z f e i g h l = go (decLt i at)
   where
-    go : Dec (i < 64 * k) → has ws i ≡ false
-    go (yes d) = f i d
-    go (no d) = has-in ws k i (omega arith) ∙ trailing-none 64 (getD ws k 0) (i % 64) (omega arith)
+    go : Dec (i < at) → has ws i ≡ false
+    go (yes d) = f i g d
+    go (no d) =
+        let s : at + (i - at) ≡ i = omega arith in
+        rw s at (has-beyond ws at (i - at) (omega arith) ∙ trailing-none 64 (getD ws (at / 64) 0 / 2 ^ (at % 64)) (i - at) (omega arith))
 
-pub lowest-here : (ws : List ℕ) (k z : ℕ) → k < 8 → ((i : ℕ) → i < 64 * k → has ws i ≡ false)
-    → z ≡ trailingZeros 64 (getD ws k 0) → z < 64 → Lowest ws (64 * k + z)
-lowest-here ws k z h f e l = record {
+pub lowest-here : (ws : List ℕ) (from at z : ℕ) → at < 512 → from ≤ at → ((i : ℕ) → from ≤ i → i < at → has ws i ≡ false)
+    → z ≡ trailingZeros 64 (getD ws (at / 64) 0 / 2 ^ (at % 64)) → z < 64 - at % 64 → Lowest ws from (at + z)
+lowest-here ws from at z h a f e l = record {
   within = omega arith;
-  none-before = λ i g. none-more ws k z f e i g (omega arith);
-  found = λ g. has-at ws k z l ∙ rw e (trailing-one 64 (getD ws k 0) (omega arith));
+  none-before = λ i g k. none-more ws from at z f e i g k (omega arith);
+  found = λ g. (
+    omega arith,
+    has-beyond ws at z (omega arith) ∙ rw e (trailing-one 64 (getD ws (at / 64) 0 / 2 ^ (at % 64)) (omega arith)),
+  );
 }
 
-pub lowest-none : (ws : List ℕ) → ((i : ℕ) → i < 512 → has ws i ≡ false) → Lowest ws 512
-lowest-none ws f = record { within = omega arith; none-before = f; found = λ g. absurd (omega arith) }
+pub lowest-none : (ws : List ℕ) (from at : ℕ) → 512 ≤ at → ((i : ℕ) → from ≤ i → i < at → has ws i ≡ false) → Lowest ws from 512
+lowest-none ws from at h f = record {
+  within = omega arith;
+  none-before = λ i g k. f i g (omega arith);
+  found = λ g. absurd (omega arith);
+}
 
-pub lowest-one : {ws : List ℕ} {r q : ℕ} → Lowest ws r → Lowest ws q → r ≡ q
-lowest-one {ws} {r} {q} a b = go (decLt r q) (decLt q r)
+pub lowest-one : {ws : List ℕ} {from r q : ℕ} → Lowest ws from r → Lowest ws from q → r ≡ q
+lowest-one {ws} {from} {r} {q} a b = go (decLt r q) (decLt q r)
   where
     clash : (i : ℕ) → has ws i ≡ true → has ws i ≡ false → ⊥
     clash i e f = let z : _≡_ {A = Bool} true false = cc in let y : _≡_ {A = ℕ} 0 1 = cc in omega arith
 
     go : Dec (r < q) → Dec (q < r) → r ≡ q
-    go (yes l) d = absurd (clash r (a .found (omega (arith, b .within))) (b .none-before r l))
-    go (no l) (yes d) = absurd (clash q (b .found (omega (arith, a .within))) (a .none-before q d))
+    go (yes l) d = let t = a .found (omega (arith, b .within)) in absurd (clash r (t .1) (b .none-before r (t .0) l))
+    go (no l) (yes d) = let t = b .found (omega (arith, a .within)) in absurd (clash q (t .1) (a .none-before q (t .0) d))
     go (no l) (no d) = omega arith

@@ -5,7 +5,7 @@
 --   put ws i       == the set ws together with the id i; ws itself where it has no word for i
 --   size ws        == the number of ones of the words ws
 --   countBelow n f == the number of i below n where f is true
---   Lowest ws r    == r is the lowest id in the set ws, or 512 where it has none
+--   Lowest ws from r == r is the lowest id in the set ws that is not below `from`, or 512 where there is none
 use Prim.Native.Nat.{ℕ, zero, suc, _+_, _/_, _%_, _^_, _<_, _≤_}
 use mathlib.Core.Path.{_≡_}
 use mathlib.Core.Bool.{Bool, true, false, cond}
@@ -33,7 +33,7 @@ unfoldable pub countBelow : ℕ → (ℕ → Bool) → ℕ
 countBelow zero f = 0
 countBelow (suc n) f = cond (f n) (suc (countBelow n f)) (countBelow n f)
 
-pub record Lowest (ws : List ℕ) (r : ℕ) : Type 0 where
+pub record Lowest (ws : List ℕ) (from r : ℕ) : Type 0 where
   pub within : r ≤ 512
-  pub none-before : (k : ℕ) → k < r → has ws k ≡ false
-  pub found : r < 512 → has ws r ≡ true
+  pub none-before : (k : ℕ) → from ≤ k → k < r → has ws k ≡ false
+  pub found : r < 512 → (from ≤ r) × (has ws r ≡ true)

@@ -59,8 +59,15 @@ pub struct Told {
     pub place: usize,
 }
 
+// An entry as an index.
+pub fn wide(x: u16) -> usize
+    ensures { λ r. ⌜ r ≡ x ⌝ }
+{
+    x as usize
+}
+
 // A byte as an entry.
-fn wide(x: u8) -> u16
+fn of_byte(x: u8) -> u16
     ensures { λ r. ⌜ (r ≡ x) × (r < 256) ⌝ }
 {
     x as u16
@@ -72,7 +79,7 @@ pub fn entry(b: &[u8], i: usize) -> u16
 {
     if i < b.len() / 2 {
         let j = 2 * i;
-        return wide(b[j]) + 256 * wide(b[j + 1]);
+        return of_byte(b[j]) + 256 * of_byte(b[j + 1]);
     }
     0
 }
@@ -201,17 +208,21 @@ fn count(x: u64) -> usize
     u64::count_ones(x) as usize
 }
 
-// The lowest id in the set, 512 where it is empty: the words in order, to the first that has a one.
-pub fn lowest(set: &[u64; 8]) -> usize
-    ensures { λ r. ⌜ Lowest (now (set .entry)) r ⌝ }
+// The lowest id in the set that is not below `from`, 512 where there is none: the words in order, from the one that `from`
+// lies in, to the first that has a one there.
+pub fn lowest(set: &[u64; 8], from: usize) -> usize
+    ensures { λ r. ⌜ Lowest (now (set .entry)) from r ⌝ }
 {
-    let mut k = 0;
-    while k < 8 {
-        let z = zeros(set[k]);
-        if z < 64 {
-            return 64 * k + z;
+    let mut at = from;
+    while at < 512 {
+        let k = at / 64;
+        let j = at % 64;
+        let x = set[k];
+        let z = zeros(x >> j);
+        if z < 64 - j {
+            return at + z;
         }
-        k += 1;
+        at = 64 * k + 64;
     }
     512
 }

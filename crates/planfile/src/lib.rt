@@ -8,13 +8,6 @@ ghost use Prim.Native.Nat.{_+_, _≤_};
 ghost use lib.ListN.{length};
 ghost use lib.Seq.{sets};
 
-// The number itself, as wide as an index.
-fn wide(x: u16) -> usize
-    ensures { λ r. ⌜ r ≡ x ⌝ }
-{
-    x as usize
-}
-
 // Copies the bytes of `from` into `to`, from the offset `at` on.
 fn place(to: &mut [u8], at: usize, from: &[u8])
     requires { ⌜ at + length (now from) ≤ length (now to) ⌝ }

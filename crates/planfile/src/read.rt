@@ -2,10 +2,10 @@
 use crate::place;
 use crate::record;
 use crate::record::RecordReply;
-use crate::wide;
 use house::Refusal;
 use house::entry;
 use house::put_entry;
+use house::wide;
 ghost use Rattle.planfile.specs.Parts.{Scans, Fine, Ready, Copied};
 ghost use Rattle.planfile.specs.Replies.{Reads};
 

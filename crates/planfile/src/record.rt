@@ -1,7 +1,7 @@
 // Records of a plan file: length first, two bytes little-endian, counting the body only; then a kind of two bytes; then the
 // body.
-use crate::wide;
 use house::entry;
+use house::wide;
 ghost use Rattle.planfile.specs.Replies.{RecordIs};
 
 // What stands at an offset of a file.

@@ -1,8 +1,8 @@
 // Writing a plan file.
 use crate::place;
-use crate::wide;
 use house::Refusal;
 use house::entry;
+use house::wide;
 use rounds::schedule;
 use routes::pair::Judged;
 ghost use Rattle.planfile.specs.Parts.{RecordRoom, PutRecord, RoundsRoom, PutRounds, Writable, PutFile};

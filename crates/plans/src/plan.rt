@@ -5,10 +5,10 @@
 use graph::cyclic;
 use graph::leads;
 use graph::reach;
-use graph::wide;
 use house::Refusal;
 use house::entry;
 use house::put_entry;
+use house::wide;
 use routes::pair::Judged;
 use routes::pair::judge;
 use routes::rule::Change;

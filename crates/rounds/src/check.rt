@@ -6,6 +6,7 @@ use crate::faults;
 use crate::faults::Kind;
 use crate::schedule;
 use house::Refusal;
+use house::wide;
 use routes::pair::Judged;
 ghost use mathlib.Core.Path.{_≡_};
 ghost use Prim.Native.Nat.{_<_, _≤_};
@@ -30,13 +31,6 @@ enum Found {
     Nowhere,
     // whether it drops, else it loops; its number; the index of its first id
     At(bool, usize, usize),
-}
-
-// An entry as an index.
-fn wide(x: u16) -> usize
-    ensures { λ r. ⌜ (r ≡ x) × (r < 65536) ⌝ }
-{
-    x as usize
 }
 
 // Makes the choice of the ids from the index `from` to before `to` the number q. A number over 511 has no choice.

@@ -4,6 +4,7 @@
 // lists may be of any length: no sum that is made exceeds the number of ids given.
 use house::Refusal;
 use house::entry;
+use house::wide;
 use routes::pair;
 use routes::pair::Judged;
 use routes::rule;
@@ -16,13 +17,6 @@ ghost use Rattle.routes.specs.Tests.{LowIds};
 ghost use Rattle.rounds.specs.Schedule.{sum, roundOf, ScheduleFault};
 ghost use Rattle.rounds.specs.Tests.{Fitting, Falls, Stray, Lost, Unplaced, Answers};
 ghost use Rattle.rounds.specs.Replies.{JudgesChange};
-
-// The number itself, as wide as an index.
-fn wide(x: u16) -> usize
-    ensures { λ r. ⌜ r ≡ x ⌝ }
-{
-    x as usize
-}
 
 // Whether the sizes add up to the total: each is taken from what is left of it, until one exceeds that.
 fn sums_to(sizes: &[u8], total: usize) -> bool

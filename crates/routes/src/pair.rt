@@ -4,6 +4,7 @@
 // first place where it fails.
 use house::Refusal;
 use house::entry;
+use house::wide;
 ghost use Prim.Native.Nat.{_<_};
 ghost use mathlib.Core.Path.{_≡_};
 ghost use lib.ListN.{length, getD};
@@ -69,13 +70,6 @@ fn wrong_id(old: &[u8], new: &[u8]) -> Spot
         return Spot::At(2, j);
     }
     Spot::Nowhere
-}
-
-// An id as an index.
-fn wide(x: u16) -> usize
-    ensures { λ r. ⌜ r ≡ x ⌝ }
-{
-    x as usize
 }
 
 // Whether an id stands twice in the route, in one run with a mark for each id met.

@@ -1,4 +1,5 @@
 // Rules as tables of next values, and the nodes that are due.
+use house::wide;
 ghost use mathlib.Core.Path.{_≡_};
 ghost use Rattle.house.specs.Numbers.{entries};
 ghost use Rattle.routes.specs.Rules.{Values, Differ, changeOf, tally, apart};
@@ -9,13 +10,6 @@ pub enum Change {
     Install,
     Remove,
     Switch,
-}
-
-// The number itself, as wide as an index.
-fn wide(x: u16) -> usize
-    ensures { λ r. ⌜ r ≡ x ⌝ }
-{
-    x as usize
 }
 
 // The next values of the 512 nodes on the route of these bytes. The entries are taken from the last to the first, so that a

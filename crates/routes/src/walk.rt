@@ -7,6 +7,7 @@ use house::Refusal;
 use house::entry;
 use house::member;
 use house::set_of;
+use house::wide;
 ghost use mathlib.Core.Path.{_≡_};
 ghost use Prim.Native.Nat.{_<_};
 ghost use Rattle.house.specs.Sets.{has};
@@ -23,13 +24,6 @@ pub enum Walked {
     // at the first node come to a second time: node, hops
     Looped(usize, usize),
     Refused(Refusal),
-}
-
-// The number itself, as an index.
-fn wide(x: u16) -> usize
-    ensures { λ r. ⌜ r ≡ x ⌝ }
-{
-    x as usize
 }
 
 // The first id of the set that isn't marked as due, 512 where there is none: the ids are tried by rising number.

@@ -10,20 +10,20 @@ use Rattle.house.proofs.entry.Tie as tie
 mul-j : tie.Need-mul-j
 mul-j c = search needs
 
-shared-slice-read-wide : tie.Need-shared-slice-read-wide
-shared-slice-read-wide c = search needs
+shared-slice-read-of-byte : tie.Need-shared-slice-read-of-byte
+shared-slice-read-of-byte c = search needs
 
-wide-requires : tie.Need-wide-requires
-wide-requires c κs = search needs
+of-byte-requires : tie.Need-of-byte-requires
+of-byte-requires c κs = search needs
 
-add-wide : tie.Need-add-wide
-add-wide c = search needs
+add-of-byte : tie.Need-add-of-byte
+add-of-byte c = search needs
 
-shared-slice-read-wide-2 : tie.Need-shared-slice-read-wide-2
-shared-slice-read-wide-2 c = search needs
+shared-slice-read-of-byte-2 : tie.Need-shared-slice-read-of-byte-2
+shared-slice-read-of-byte-2 c = search needs
 
-wide-requires-2 : tie.Need-wide-requires-2
-wide-requires-2 c κs = search needs
+of-byte-requires-2 : tie.Need-of-byte-requires-2
+of-byte-requires-2 c κs = search needs
 
 mul-result : tie.Need-mul-result
 mul-result c = search needs
@@ -44,11 +44,11 @@ entry-spec =
     tie.close
     (tie.spec
     mul-j
-    shared-slice-read-wide
-    wide-requires
-    add-wide
-    shared-slice-read-wide-2
-    wide-requires-2
+    shared-slice-read-of-byte
+    of-byte-requires
+    add-of-byte
+    shared-slice-read-of-byte-2
+    of-byte-requires-2
     mul-result
     add-result
     returns

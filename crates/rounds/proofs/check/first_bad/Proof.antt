@@ -41,7 +41,7 @@ setting c =
       good = sound c .good;
       olds = c .before .before .before .before .next-values .ensures;
       news = c .before .before .before .next-values2 .ensures;
-      begins = c .before .wide .ensures .0 ∙ c .before .before .entry .ensures;
+      begins = c .before .wide .ensures ∙ c .before .before .entry .ensures;
     }
 
 -- a round that is left
@@ -55,7 +55,7 @@ counts c = record { fits = omega (arith, c .loop-test .taken, given (c .before) 
 size : (c : tie.After-wide2 Inv-loop μ-loop) →
     let at = c .before .before .before in
     c .wide2 .result ≡ getD (entries (given at .args .sizes .now)) (at .loop .t) 0
-size c = c .wide2 .ensures .0 ∙ c .before .entry2 .ensures
+size c = c .wide2 .ensures ∙ c .before .entry2 .ensures
 
 reach : (c : tie.After-wide2 Inv-loop μ-loop) →
     let at = c .before .before .before in

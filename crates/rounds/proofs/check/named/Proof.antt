@@ -42,19 +42,19 @@ setting c =
       good = clear-change (given c .pre .0) .good;
       olds = c .before .before .before .next-values .ensures;
       news = c .before .before .next-values2 .ensures;
-      begins = c .wide .ensures .0 ∙ c .before .entry .ensures;
+      begins = c .wide .ensures ∙ c .before .entry .ensures;
     }
 
 the-round : (c : tie.After-wide2 Inv-loop μ-loop) →
     let a = given (c .before .before) .args in
     Spans (entries (a .ids .now)) (entries (a .sizes .now)) (a .t) (a .from) (a .from + c .wide2 .result)
-the-round c = rw (c .wide2 .ensures .0 ∙ c .before .entry2 .ensures) (bad-round (c .before .before) .span)
+the-round c = rw (c .wide2 .ensures ∙ c .before .entry2 .ensures) (bad-round (c .before .before) .span)
 
 -- the id at the loop's index
 id-of : (c : tie.After-wide3 Inv-loop μ-loop) →
     let at = c .before .before .before in
     c .wide3 .result ≡ getD (entries (given (at .before .before .before) .args .ids .now)) (at .loop .i) 0
-id-of c = c .wide3 .ensures .0 ∙ c .before .entry3 .ensures
+id-of c = c .wide3 .ensures ∙ c .before .entry3 .ensures
 
 next-values-requires : tie.Need-next-values-requires Inv-loop μ-loop
 next-values-requires c κs = search needs

@@ -38,7 +38,7 @@ loop-less c = search needs
 loop-again : tie.Need-loop-again Inv-loop μ-loop
 loop-again c =
     let at = c .before .before .before .before .loop in
-    let id = c .before .wide .ensures .0 ∙ c .before .before .entry .ensures in (
+    let id = c .before .wide .ensures ∙ c .before .before .entry .ensures in (
       omega (arith, at .inv .0),
       omega arith,
       ⊎-elim
