@@ -2,6 +2,7 @@
 --
 --   told-one         == number, where and place tell the refusal
 --   before-irreflexive, before-transitive == `Before` is a strict order
+--   before-number    == a refusal that is before another has no higher number
 --   before-or        == of two refusals one is before the other, or the three numbers are the same
 --   first-one        == at most one refusal is the one that is given
 --   first-not-clear  == where one is given, some applies
@@ -102,6 +103,11 @@ before-transitive (sooner d h) (nearer e f k) = sooner (omega arith) (omega arit
 before-transitive (nearer d g h) (lower k) = lower (omega arith)
 before-transitive (nearer d g h) (sooner e k) = sooner (omega arith) (omega arith)
 before-transitive (nearer d g h) (nearer e f k) = nearer (omega arith) (omega arith) (omega arith)
+
+pub before-number : {q r : Refusal} → Before q r → number q ≤ number r
+before-number (lower h) = omega arith
+before-number (sooner e h) = omega arith
+before-number (nearer e s h) = omega arith
 
 -- one of the two numbers is lower, or they are equal
 pick : {A : Type 0} (a b : ℕ) → (a < b → A) → (b < a → A) → (a ≡ b → A) → A

@@ -1,18 +1,11 @@
 -- The order of refusals, where one is known.
 --
---   before-number    == a refusal that is given rather than another has no higher number
 --   before-wrong     == of two wrong records the one at the lower offset is given
 --   before-length    == of two routes of wrong lengths the old one is given
-use Prim.Native.Nat.{ℕ, _<_, _≤_}
+use Prim.Native.Nat.{ℕ, _<_}
 use native.Mathlib.Omega.{arith}
-use Rattle.house.specs.Refusals.{number, Before, lower, sooner, nearer}
-use Rattle.house.specs.declared.Refusal.{Refusal}
+use Rattle.house.specs.Refusals.{Before, lower, sooner, nearer}
 use Rattle.house.specs.declared.Refusal.the-variants.{RecordWrong, RouteLength}
-
-pub before-number : {q r : Refusal} → Before q r → number q ≤ number r
-before-number (lower h) = omega arith
-before-number (sooner e h) = omega arith
-before-number (nearer e s h) = omega arith
 
 pub before-wrong : {p q : ℕ} → Before (RecordWrong p) (RecordWrong q) → p < q
 before-wrong (lower h) = absurd (omega arith)

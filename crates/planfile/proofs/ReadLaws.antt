@@ -34,7 +34,7 @@ use Rattle.house.specs.Numbers.{le, entries, putNumber}
 use Rattle.house.specs.Refusals.{Before, First, Clear}
 use Rattle.house.specs.declared.Refusal.{Refusal}
 use Rattle.house.specs.declared.Refusal.the-variants.{FileLong, RecordWrong, RouteLength}
-use Rattle.house.proofs.RefusalLaws.{before-irreflexive}
+use Rattle.house.proofs.RefusalLaws.{before-irreflexive, before-number}
 use Rattle.house.proofs.NumberLaws.{Under}
 use Rattle.plans.specs.Replies.{overlaid}
 use Rattle.planfile.specs.File.{sizeAt, WrongAt, cut, after, Expects, at-front, behind, Ended}
@@ -46,7 +46,7 @@ use Rattle.planfile.specs.declared.read.Scan.the-variants.{Bodies, Wrong
 use Rattle.planfile.specs.declared.record.RecordReply.{RecordReply}
 use Rattle.planfile.specs.declared.record.RecordReply.the-variants.{Body}
 use Rattle.planfile.proofs.record.RecordReply.{the-type}
-use Rattle.planfile.proofs.OrderLaws.{before-number, before-wrong, before-length}
+use Rattle.planfile.proofs.OrderLaws.{before-wrong, before-length}
 use Rattle.planfile.proofs.RecordLaws.{Right, right, right-not, body, length-body, next-expected, expects-before, expects-same, expects-place, expects-kind}
 use Rattle.planfile.proofs.FileLaws.{right-at, not-ended, pair-held, body-whole, body-under, body-entries, rounds-none, rounds-more}
 use Rattle.planfile.proofs.StoreLaws.{overlaid-none, length-overlaid, overlaid-bytes, overlaid-more, overlaid-put}

@@ -50,7 +50,7 @@ use Rattle.routes.specs.Tests.{LowIds}
 use Rattle.routes.specs.Replies.{JudgeFault}
 use Rattle.routes.specs.declared.pair.Judged.{Judged}
 use Rattle.routes.specs.declared.pair.Judged.the-variants.{Faulty}
-use Rattle.house.proofs.RefusalLaws.{unfit-first}
+use Rattle.house.proofs.RefusalLaws.{before-number, unfit-first}
 use Rattle.routes.proofs.PairLaws.{judge-low}
 use Rattle.routes.proofs.RuleLaws.{due-mark, due-below}
 use Rattle.routes.proofs.TestLaws.{Unmet, unmet-none, unmet-more, unmet-here, unmet-end, Marked}
@@ -157,11 +157,6 @@ order zs falls k i (nearer e s h) = h
 order zs strays k i (nearer e s h) = h
 order zs agains k i (nearer e s h) = h
 order zs losses k i (nearer e s h) = h
-
-before-number : {q r : Refusal} → Before q r → number q ≤ number r
-before-number (lower h) = omega arith
-before-number (sooner e h) = omega arith
-before-number (nearer e s h) = omega arith
 
 -- which test a refusal is of
 data Told (zs : List ℕ) (q : Refusal) : Type 0 where

@@ -19,7 +19,7 @@ use Rattle.house.specs.declared.Refusal.{Refusal}
 use Rattle.house.specs.declared.Refusal.the-variants.{Unfit, RouteLength, RouteId, RouteRepeat, EndsDiffer}
 use Rattle.house.specs.Numbers.{entries, Whole}
 use Rattle.house.specs.Refusals.{number, Before, lower, sooner, nearer, First, Clear}
-use Rattle.house.proofs.RefusalLaws.{first-one, first-not-clear, unfit-first}
+use Rattle.house.proofs.RefusalLaws.{before-number, first-one, first-not-clear, unfit-first}
 use Rattle.routes.specs.Routes.{
   source,
   destination,
@@ -144,12 +144,6 @@ judge-low (pair (destinations-differ e h)) = omega arith
 pub judged-unfit : {old new : List ℕ} → JudgeFault old new Unfit → First (JudgeFault old new) Unfit
 judged-unfit f = unfit-first f
 
--- a refusal with a higher number isn't before
-not-before : {q r : Refusal} → number r < number q → Before q r → ⊥
-not-before h (lower k) = omega arith
-not-before h (sooner e k) = omega arith
-not-before h (nearer e f k) = omega arith
-
 pub judge-first-in :
     {old new : List ℕ} {G : Refusal → Type 0} {r : Refusal}
     → ((q : Refusal) → G q → JudgeFault old new q ⊎ (7 < number q))
@@ -163,7 +157,7 @@ judge-first-in {old} {new} {G} {r} out into f = record { applies = into (f .appl
 
     go : (q : Refusal) → JudgeFault old new q ⊎ (7 < number q) → Before q r → ⊥
     go q (inl j) b = f .lowest q j b
-    go q (inr h) b = not-before (omega (arith, low)) b
+    go q (inr h) b = omega (arith, low, before-number b)
 
 pub judges-one : {old new : List ℕ} {a b : Judged} → Judges old new a → Judges old new b → a ≡ b
 judges-one (sound k) (sound l) = refl

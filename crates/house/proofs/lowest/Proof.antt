@@ -41,7 +41,7 @@ returns : tie.Need-returns Inv-loop μ-loop
 returns c =
     let l = c .before .before .before .before in
     lowest-here (l .before .args .set .now) (l .before .args .from) (l .loop .at) (c .before .zeros .result) (omega arith)
-    (l .loop .inv .0) (l .loop .inv .1) (c .before .zeros .ensures .0) (c .if1 .taken)
+    (l .loop .inv .0) (l .loop .inv .1) (c .before .zeros .ensures .0) (omega (arith, c .if1 .taken))
 
 mul-at : tie.Need-mul-at Inv-loop μ-loop
 mul-at c = omega arith
