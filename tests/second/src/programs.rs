@@ -48,7 +48,7 @@ fn planned(content: &Content) -> Expected {
             let size = rounds.len() as u64;
             Expected { written: planfile::write(&Content { rounds, ..content.clone() }), given: 0, applying: vec![], size }
         }
-        Err(r) => refused(r, &[], model::applying_to_plan(&content.old, &content.new, content.mode)),
+        Err(r) => refused(r, &[], Planner.applying(content, 0)),
     }
 }
 
@@ -70,17 +70,26 @@ impl Program {
         }
     }
 
+    /// The refusals from 4 on that apply to a content, each taken by itself.
+    fn applying(self, content: &Content, force: usize) -> Vec<u64> {
+        match self {
+            Checker => checked(content, force).applying,
+            Planner => model::applying_to_plan(&content.old, &content.new, content.mode),
+        }
+    }
+
     /// What the second program says. Where a record is wrong, the refusals that apply are also those of the records before it.
     pub fn expected(self, file: &[u8], force: usize) -> Expected {
-        let Records { bodies, wrong } = planfile::records(file);
-        let of_content = planfile::content(&bodies).map(|content| match self {
-            Checker => checked(&content, force),
-            Planner => planned(&content),
-        });
-        let Err(r) = planfile::read(file) else { return of_content.expect("a file that is read has a content") };
-        let of_file = [(2, file.len() > LIMIT), (3, wrong.is_some())].into_iter().filter(|(_, applies)| *applies);
-        let later = of_content.map(|expected| expected.applying).unwrap_or_default();
-        refused(r, &[], of_file.map(|(number, _)| number).chain(later).collect())
+        match (planfile::read(file), self) {
+            (Ok(content), Checker) => checked(&content, force),
+            (Ok(content), Planner) => planned(&content),
+            (Err(r), _) => {
+                let Records { bodies, wrong } = planfile::records(file);
+                let of_file = [(2, file.len() > LIMIT), (3, wrong.is_some())].into_iter().filter(|(_, applies)| *applies);
+                let later = planfile::content(&bodies).map(|content| self.applying(&content, force)).unwrap_or_default();
+                refused(r, &[], of_file.map(|(number, _)| number).chain(later).collect())
+            }
+        }
     }
 }
 
