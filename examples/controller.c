@@ -1,19 +1,25 @@
 /*
- * A small controller. A tenant's path moves from the old route 1 2 3 to the new route 1 4 3: it checks a schedule and tells its
- * rounds, shows why another schedule is refused, and follows a packet through one state.
+ * A small controller. A tenant's path moves from the old route 1 2 3 to the new route 1 4 3: it plans the change, checks the plan and
+ * tells what each switch is told in each round; it shows why another schedule is refused; and it follows a packet through one
+ * state.
  *
  *     cc -Iinclude examples/controller.c target/staticlib/libjiwasampu.a -o controller
  */
 #include "jiwasampu.h"
 
 #include <stdio.h>
-#include <string.h>
 
 /* Two bytes to an id, the lower first. */
 static const uint8_t old_route[] = {1, 0, 2, 0, 3, 0};
 static const uint8_t new_route[] = {1, 0, 4, 0, 3, 0};
 
 enum { STRONG = 0, NONE = -1 };
+
+/* The ids of all rounds, one round after the other, and how many each round has. */
+struct schedule {
+    uint8_t ids[1024], sizes[1024];
+    unsigned count, rounds;
+};
 
 struct reply {
     unsigned number, where, place, node;
@@ -39,6 +45,11 @@ static int rule(const uint8_t *route, size_t length, int node)
     return NONE;
 }
 
+static void print_refusal(struct reply r)
+{
+    printf("refused: %u, where %u, place %u\n", r.number, r.where, r.place);
+}
+
 static void print_set(const uint8_t set[64])
 {
     const char *before = "{";
@@ -51,13 +62,13 @@ static void print_set(const uint8_t set[64])
 }
 
 /* What each node of each round is told. */
-static void print_rounds(const uint8_t *ids, const uint8_t *sizes, unsigned rounds)
+static void print_rounds(const struct schedule *schedule)
 {
     size_t at = 0;
-    for (unsigned t = 0; t < rounds; t++) {
+    for (unsigned t = 0; t < schedule->rounds; t++) {
         printf("round %u:", t + 1);
-        for (int k = entry(sizes, t); k > 0; k--, at++) {
-            int node = entry(ids, at);
+        for (int k = entry(schedule->sizes, t); k > 0; k--, at++) {
+            int node = entry(schedule->ids, at);
             int from = rule(old_route, sizeof old_route, node), to = rule(new_route, sizeof new_route, node);
             if (to == NONE)
                 printf(" node %d removes its rule to %d;", node, from);
@@ -70,28 +81,44 @@ static void print_rounds(const uint8_t *ids, const uint8_t *sizes, unsigned roun
     }
 }
 
-static void check(const uint8_t *ids, size_t ids_length, const uint8_t *sizes, size_t sizes_length)
+/* The plan of the change. Returns whether there is one. */
+static int plan(struct schedule *schedule)
+{
+    struct reply r = lanes(jiwasampu_plan(old_route, sizeof old_route, new_route, sizeof new_route, STRONG, schedule->ids,
+                                          sizeof schedule->ids, schedule->sizes, sizeof schedule->sizes));
+    if (r.number != 0) {
+        print_refusal(r);
+        return 0;
+    }
+    schedule->rounds = r.where;
+    schedule->count = r.place;
+    printf("planned: %u rounds for %u nodes\n", schedule->rounds, schedule->count);
+    return 1;
+}
+
+/* Returns whether the schedule is safe. */
+static int check(const struct schedule *schedule)
 {
     uint8_t set[64];
-    struct reply r = lanes(jiwasampu_check(old_route, sizeof old_route, new_route, sizeof new_route, STRONG, ids, ids_length,
-                                           sizes, sizes_length, set, sizeof set));
+    struct reply r = lanes(jiwasampu_check(old_route, sizeof old_route, new_route, sizeof new_route, STRONG, schedule->ids,
+                                           2 * schedule->count, schedule->sizes, 2 * schedule->rounds, set, sizeof set));
     if (r.number == 0) {
         printf("safe: %u rounds, %u nodes are due\n", r.where, r.place);
-        print_rounds(ids, sizes, r.where);
     } else if (r.number == 16 || r.number == 17) {
         printf("refused: %u, packets %s in round %u while of its nodes exactly these have changed: ", r.number,
                r.number == 16 ? "drop" : "loop", r.where);
         print_set(set);
     } else {
-        printf("refused: %u, where %u, place %u\n", r.number, r.where, r.place);
+        print_refusal(r);
     }
+    return r.number == 0;
 }
 
 static void walk(const uint8_t set[64])
 {
     struct reply r = lanes(jiwasampu_walk(old_route, sizeof old_route, new_route, sizeof new_route, set, 64));
     if (r.number != 0)
-        printf("refused: %u, where %u, place %u\n", r.number, r.where, r.place);
+        print_refusal(r);
     else if (r.where == 0)
         printf("a packet arrives, hops made: %u\n", r.place);
     else
@@ -100,19 +127,19 @@ static void walk(const uint8_t set[64])
 
 int main(void)
 {
-    static const uint8_t good_ids[] = {4, 0, 1, 0, 2, 0}, good_sizes[] = {1, 0, 1, 0, 1, 0};
-    static const uint8_t bad_ids[] = {1, 0, 4, 0, 2, 0}, bad_sizes[] = {2, 0, 1, 0};
-    uint8_t set[64];
+    static struct schedule planned;
+    static const struct schedule hasty = {.ids = {1, 0, 4, 0, 2, 0}, .sizes = {2, 0, 1, 0}, .count = 3, .rounds = 2};
+    static const uint8_t only_1[64] = {1 << 1};
 
-    puts("rounds {4} {1} {2}");
-    check(good_ids, sizeof good_ids, good_sizes, sizeof good_sizes);
+    puts("from 1 2 3 to 1 4 3");
+    if (!plan(&planned) || !check(&planned))
+        return 1;
+    print_rounds(&planned);
 
-    puts("rounds {1,4} {2}");
-    check(bad_ids, sizeof bad_ids, bad_sizes, sizeof bad_sizes);
+    puts("another schedule: {1,4} {2}");
+    check(&hasty);
 
-    puts("state {1}");
-    memset(set, 0, sizeof set);
-    set[1 / 8] |= 1 << 1 % 8;
-    walk(set);
+    puts("a state: only node 1 has changed");
+    walk(only_1);
     return 0;
 }

@@ -5,6 +5,7 @@ use crate::changes;
 use crate::guarded::Guarded;
 use crate::model::{self, refusal, Refusal, Walk};
 use crate::random::Random;
+use crate::seen::Seen;
 use crate::written;
 use crate::{bytes, entries};
 use std::collections::BTreeMap;
@@ -238,26 +239,21 @@ fn random_walk(random: &mut Random) -> Call {
     Call::Walk { old, new, set }
 }
 
-/// How often each reply of a call came up, how often each end of a walk (0 arrived, 1 dropped, 2 looped) and each pair of a
-/// refusal that was given and one that applied as well, the largest subset that was named for each fault, and the most rounds of
-/// a plan.
+/// What came up, how often each end of a walk (0 arrived, 1 dropped, 2 looped), the largest subset that was named for each fault,
+/// and the most rounds of a plan.
 #[derive(Default)]
-struct Seen {
-    replies: BTreeMap<(&'static str, u64), u64>,
+struct Came {
+    seen: Seen,
     ends: BTreeMap<u16, u64>,
-    pairs: BTreeMap<(&'static str, u64, u64), u64>,
     largest: BTreeMap<u64, u16>,
     longest: u16,
 }
 
-impl Seen {
+impl Came {
     fn count(&mut self, call: &Call, expected: &Expected) {
         let [given, site, place, _] = expected.outcome.lanes;
         let given = given as u64;
-        *self.replies.entry((call.name(), given)).or_default() += 1;
-        for other in expected.applying.iter().filter(|number| **number > given) {
-            *self.pairs.entry((call.name(), given, *other)).or_default() += 1;
-        }
+        self.seen.count(call.name(), given, &expected.applying);
         if given == 0 && matches!(call, Call::Walk { .. }) {
             *self.ends.entry(site).or_default() += 1;
         }
@@ -268,28 +264,6 @@ impl Seen {
             let largest = self.largest.entry(given).or_default();
             *largest = place.max(*largest);
         }
-    }
-
-    /// Each refusal of the call was given, also where each later one applied, and no other refusal was given. Whether a round
-    /// is bad is known only where none of 4 to 13 applies.
-    fn assert_all(&self, name: &'static str, refusals: &[u64]) {
-        for number in 0..100 {
-            let came = self.replies.contains_key(&(name, number));
-            assert_eq!(came, number == 0 || refusals.contains(&number), "{name} answers {number}");
-        }
-        for (k, a) in refusals.iter().enumerate() {
-            for b in refusals[k + 1..].iter().filter(|b| **b < 15 || !(4..14).contains(a)) {
-                assert!(self.pairs.contains_key(&(name, *a, *b)), "{name}: no case to which {a} and {b} apply");
-            }
-        }
-    }
-
-    fn print(&self, name: &'static str, refusals: &[u64]) {
-        let times = |number| self.replies[&(name, number)];
-        let each: Vec<String> = refusals.iter().map(|number| format!("{number}: {}", times(*number))).collect();
-        let next: Vec<String> =
-            refusals.windows(2).map(|pair| format!("{}+{}: {}", pair[0], pair[1], self.pairs[&(name, pair[0], pair[1])])).collect();
-        println!("{name}: yes {}; refused {}; two at once {}", times(0), each.join(", "), next.join(", "));
     }
 }
 
@@ -316,7 +290,7 @@ pub fn compare(count: u64, seed: u64) {
     let mut memory = std::array::from_fn(|_| Guarded::new());
     println!("{} written cases agree", compare_written(&mut memory));
     let mut random = Random(seed);
-    let mut seen = Seen::default();
+    let mut came = Came::default();
     for i in 0..count {
         let call = match random.below(12) {
             0 | 1 => random_walk(&mut random),
@@ -329,16 +303,16 @@ pub fn compare(count: u64, seed: u64) {
             panic!("case {i} of seed {seed}: {text}\n {call:?}");
         }
         check_again(&call, &got, &mut memory);
-        seen.count(&call, &expected);
+        came.count(&call, &expected);
     }
     println!("{count} random calls (seed {seed}) agree");
     for (name, refusals) in [("check", &OF_CHECK[..]), ("plan", &OF_PLAN[..]), ("walk", &OF_WALK[..])] {
-        seen.assert_all(name, refusals);
-        seen.print(name, refusals);
+        came.seen.all(name, refusals).unwrap_or_else(|text| panic!("{text}"));
+        came.seen.print(name, refusals);
     }
-    println!("walks arrived {}, dropped {}, looped {}", seen.ends[&0], seen.ends[&1], seen.ends[&2]);
-    println!("most rounds of a plan: {}", seen.longest);
-    println!("largest subsets named: {} for a drop, {} for a loop", seen.largest[&16], seen.largest[&17]);
+    println!("walks arrived {}, dropped {}, looped {}", came.ends[&0], came.ends[&1], came.ends[&2]);
+    println!("most rounds of a plan: {}", came.longest);
+    println!("largest subsets named: {} for a drop, {} for a loop", came.largest[&16], came.largest[&17]);
 }
 
 #[cfg(test)]

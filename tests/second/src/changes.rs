@@ -1,6 +1,7 @@
 //! Random changes: plans and other schedules of a pair of routes, good, bad and damaged.
 
 use crate::model;
+use crate::planfile::Content;
 use crate::random::Random;
 
 /// A change as lists: two routes, a mode, and a schedule's ids and sizes.
@@ -41,6 +42,23 @@ pub fn change(random: &mut Random) -> Lists {
         }
     }
     lists
+}
+
+/// A change as a plan file holds it. Ids that the sizes leave over make one more round; a size that is too large takes what is
+/// left.
+pub fn content(random: &mut Random) -> Content {
+    let lists = change(random);
+    let mut left = &lists.ids[..];
+    let mut rounds = vec![];
+    for size in &lists.sizes {
+        let (round, rest) = left.split_at(left.len().min(*size as usize));
+        rounds.push(round.to_vec());
+        left = rest;
+    }
+    if !left.is_empty() {
+        rounds.push(left.to_vec());
+    }
+    Content { old: lists.old, new: lists.new, mode: lists.mode, rounds }
 }
 
 /// What a plan is asked for: two routes and a mode, sound in two cases of three, else damaged.

@@ -3,12 +3,19 @@
 //! second answer: answers the requests on standard input itself, a line each.
 //! second ask PROGRAM COUNT SEED: asks PROGRAM (crate `cases`) about the judgement, the jumps and the walk of random routes.
 //! second calls COUNT SEED: calls what the archive offers to C on written and random cases.
+//! second programs CHECKER PLANNER COUNT SEED: runs the two programs on random plan files.
 
 mod calls;
 mod changes;
+#[cfg(test)]
+mod faults;
+mod files;
 mod guarded;
 mod model;
+mod planfile;
+mod programs;
 mod random;
+mod seen;
 mod written;
 
 use model::{refusal, Refusal, Walk};
@@ -169,8 +176,13 @@ fn main() {
         Some("answer") => answer(),
         Some("ask") if words.len() == 5 => ask(&words[2], number(3), number(4)),
         Some("calls") if words.len() == 4 => calls::compare(number(2), number(3)),
+        Some("programs") if words.len() == 6 => {
+            let paths = programs::Paths { checker: words[2].clone(), planner: words[3].clone() };
+            programs::compare_and_print(&paths, number(4), number(5))
+        }
         _ => {
             eprintln!("usage: second answer | second ask PROGRAM COUNT SEED | second calls COUNT SEED");
+            eprintln!("       second programs CHECKER PLANNER COUNT SEED");
             std::process::exit(2);
         }
     }
