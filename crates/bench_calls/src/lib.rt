@@ -74,14 +74,7 @@ pub extern "C" fn bench_read(
     ensures { λ r. ⌜ ReadCall (now (file .entry)) (now (old .entry)) (now (new .entry)) (now (ids .entry)) (now (sizes .entry)) r (now (old .exit)) (now (new .exit)) (now (ids .exit)) (now (sizes .exit)) ⌝ }
 {
     match planfile::read::read(file, old, new, ids, sizes) {
-        ReadReply::Content(a, b, mode, count, rounds) => pack(
-            0,
-            a,
-            b,
-            count,
-            rounds,
-            mode as usize,
-        ),
+        ReadReply::Content(a, b, mode, n, k) => pack(0, a, b, n, k, mode as usize),
         ReadReply::NotRead(r) => refused(r),
     }
 }
