@@ -1,6 +1,6 @@
 //! One table of all that is measured.
 //!
-//!     bench compare          the same answers on 10,000 random inputs of each call
+//!     bench compare          the same answers on 10,000 random inputs of each call and on the rows of the table
 //!     bench count            each answer of each row once, for callgrind
 //!     bench table [COUNTS]   the table; COUNTS is a file with the instructions that callgrind counted, in order
 
@@ -20,6 +20,11 @@ use worst::{against_whole, rows, Row};
 
 const CALLS: [&str; 7] = ["reach", "cyclic", "check", "plan", "walk", "read", "write"];
 
+/// All rows; the last is the one against tests of whole rounds.
+fn all_rows() -> impl Iterator<Item = Row> {
+    rows().into_iter().chain([against_whole()])
+}
+
 fn compare() {
     const INPUTS: usize = 10_000;
     for call in CALLS {
@@ -37,6 +42,14 @@ fn compare() {
         }
         println!("{call}: the same answers on {INPUTS} random inputs; by their number {seen:?}");
     }
+    for row in all_rows() {
+        let name = row.name();
+        for n in row.nodes() {
+            let input = (row.at)(*n);
+            let reply = same(&name, &input, input.room(), [proved, row.other]);
+            assert!(*n < 256 || reply == row.reply, "{name}: the reply is {reply:#x}, not {:#x}", row.reply);
+        }
+    }
 }
 
 /// Callgrind writes down what it counted whenever this is called.
@@ -47,7 +60,7 @@ fn counted() {
 }
 
 fn count() {
-    for row in rows().into_iter().chain([against_whole()]) {
+    for row in all_rows() {
         for n in row.nodes() {
             let input = (row.at)(*n);
             for answer in [proved, row.other] {
@@ -77,7 +90,7 @@ fn table(counts: &[u64]) {
         row.nodes().iter().map_while(pair).collect::<Vec<[u64; 2]>>()
     };
     let mut all: Vec<(Row, Measured)> = vec![];
-    for row in rows().into_iter().chain([against_whole()]) {
+    for row in all_rows() {
         let measured = measured(&row, pairs(&row));
         all.push((row, measured));
     }
