@@ -1,3 +1,4 @@
+// Reads a plan file on standard input, no more than 4,093 bytes of it, and prints one line: OK or NO.
 use libc::STDIN_FILENO;
 use libc::STDOUT_FILENO;
 

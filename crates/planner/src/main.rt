@@ -1,3 +1,5 @@
+// Reads a plan file on standard input, no more than 4,093 bytes of it, and writes the plan file with the rounds of the plan, or the NO
+// line.
 use libc::STDIN_FILENO;
 use libc::STDOUT_FILENO;
 
