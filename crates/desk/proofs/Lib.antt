@@ -1,3 +1,4 @@
 pub mod LineLaws
 pub mod IdLaws
 pub mod ProgramLaws
+pub mod OneReply
