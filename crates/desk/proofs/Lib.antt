@@ -2,3 +2,4 @@ pub mod LineLaws
 pub mod IdLaws
 pub mod ProgramLaws
 pub mod OneReply
+pub mod Answers

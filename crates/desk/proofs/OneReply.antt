@@ -4,31 +4,29 @@
 --
 --   decimal-one      == a number has one text in decimal
 --   fields-one, line-one == numbers have one text of fields, a word and numbers one line
+--   one-content      == a file that is read holds one content
 --   checker-says-one == the checker prints one word and one list of numbers
 --   planner-gives-one == the planner writes one text
 --   checker-one      == of `checker`: one reply, and one content of the lent memory after it
 --   planner-one      == of `planner`
 use Prim.Native.Nat.{ℕ}
-use mathlib.Core.Path.{_≡_, refl, sym, ap, _∙_}
+use mathlib.Core.Path.{_≡_, sym, ap, _∙_}
 use mathlib.Core.List.{List, [], _∷_, _++_}
 use native.Mathlib.Omega.{arith}
-use lib.ListN.{drop}
-use Rattle.io.specs.Digits.{digits, Fewest}
+use Rattle.io.specs.Digits.{digits}
 use Rattle.house.specs.declared.Refusal.{Refusal}
-use Rattle.house.specs.Numbers.{words, encode}
+use Rattle.house.specs.Numbers.{encode}
 use Rattle.house.specs.Refusals.{Clear}
 use Rattle.house.proofs.RefusalLaws.{first-one, first-not-clear}
-use Rattle.routes.specs.Walk.{State}
 use Rattle.rounds.specs.Replies.{Checks}
 use Rattle.rounds.specs.declared.check.Checked.{Checked}
 use Rattle.rounds.proofs.OneReply.{checks-one}
-use Rattle.plans.specs.Plan.{idsOf, sizesOf}
 use Rattle.plans.proofs.OneReply.{plan-rounds-one}
-use Rattle.planfile.specs.File.{fileOf, Holds}
+use Rattle.planfile.specs.File.{Holds}
 use Rattle.planfile.proofs.FileLaws.{SameContent, holds-one}
 use Rattle.planfile.proofs.OneContent.{clear-short}
 use Rattle.desk.specs.Text.{Decimal, Fields, no-more, field, Line}
-use Rattle.desk.specs.Replies.{zeros, FileFault, told, subset, CheckerSays, wrong-file, accepted, refused, PlannerGives, planned, Puts, CheckerPuts, PlannerPuts}
+use Rattle.desk.specs.Replies.{zeros, FileFault, told, CheckerSays, wrong-file, accepted, refused, PlannerGives, planned, Puts, CheckerPuts, PlannerPuts}
 use Rattle.desk.proofs.LineLaws.{fewest-short}
 
 -- ---- text
@@ -66,7 +64,7 @@ puts-one p q e =
 -- ---- the checker
 
 module _ {f : List ℕ} (k : Clear (FileFault f)) where
-  one-content :
+  pub one-content :
       {o n is zs o' n' is' zs' : List ℕ} {mode mode' : ℕ}
       → Holds f o n mode is zs
       → Holds f o' n' mode' is' zs'
