@@ -19,7 +19,7 @@ use native.Mathlib.Omega.{arith}
 use lib.ListN.{length, drop, length-append}
 use lib.Seq.{sets, length-sets}
 use Rattle.io.specs.Digits.{glyph, digits, Fewest}
-use Rattle.planfile.proofs.StoreLaws.{sets-append, sets-front}
+use Rattle.house.proofs.StoreLaws.{sets-append, sets-front}
 use Rattle.desk.specs.Text.{Fields, no-more, field}
 use Rattle.desk.specs.Parts.{PutText, PutFields, PutLine}
 

@@ -7,6 +7,7 @@ ghost use mathlib.Core.Bool.{false};
 ghost use Prim.Native.Nat.{_+_, _<_, _≤_};
 ghost use lib.ListN.{length, getD, take, drop};
 ghost use lib.Count.{ones, trailingZeros};
+ghost use lib.Seq.{sets};
 ghost use Rattle.house.specs.Numbers.{le, entries, words, eight, putNumber};
 ghost use Rattle.house.specs.Sets.{has, put, size, Lowest};
 ghost use Rattle.house.specs.Refusals.{number, site, place};
@@ -138,6 +139,24 @@ pub fn put_word(b: &mut [u8], i: usize, x: u64)
         b[j + 5] = (x / 256 / 256 / 256 / 256 / 256 % 256) as u8;
         b[j + 6] = (x / 256 / 256 / 256 / 256 / 256 / 256 % 256) as u8;
         b[j + 7] = (x / 256 / 256 / 256 / 256 / 256 / 256 / 256 % 256) as u8;
+    }
+}
+
+// Copies the bytes of `from` into `to`, from the offset `at` on; those for which `to` is too short are left out.
+pub fn store(to: &mut [u8], at: usize, from: &[u8])
+    ensures { λ r. ⌜ now (to .exit) ≡ sets (now (to .entry)) at (now (from .entry)) ⌝ }
+{
+    let n = from.len();
+    let mut i = 0;
+    while i < n {
+        if to.len() <= at {
+            return;
+        }
+        if to.len() - at <= i {
+            return;
+        }
+        to[at + i] = from[i];
+        i += 1;
     }
 }
 

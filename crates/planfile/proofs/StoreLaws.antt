@@ -1,8 +1,5 @@
 -- Laws on bytes stored in lent memory.
 --
---   sets-append      == two lists of bytes stored one behind the other
---   sets-more        == one byte more is stored
---   sets-front       == bytes stored from the front
 --   encode-one       == one entry as bytes
 --   overlaid-none    == no entry in front: the bytes as they are
 --   length-overlaid  == lent memory keeps its length
@@ -16,27 +13,12 @@ use mathlib.Core.List.{List, [], _∷_, _++_}
 use native.Mathlib.Nat.{add-zero, zero-add}
 use native.Mathlib.Omega.{arith}
 use lib.ListN.{length, getD, take, drop, set, length-append, length-drop}
-use lib.Seq.{length-take-le, sets, sets-eq, take-suc, take-at}
+use lib.Seq.{sets, take-at}
 use Rattle.house.specs.Numbers.{bytes, entries, encode, putNumber, Whole}
+use Rattle.house.proofs.StoreLaws.{sets-append, sets-front}
 use Rattle.house.proofs.NumberLaws.{Under, length-encode, length-entries, encode-entries, putNumber-in}
 use Rattle.plans.proofs.WriteLaws.{overlaid-more as overlaid-one}
 use Rattle.plans.specs.Replies.{overlaid}
-
-pub sets-append : (a b l : List ℕ) (i : ℕ) → sets l i (a ++ b) ≡ sets (sets l i a) (i + length a) b
-sets-append [] b l i = rw (add-zero i)
-sets-append (x ∷ a) b l i =
-    let e : suc i + length a ≡ i + suc (length a) = omega arith in
-    sets-append a b (set l i x) (suc i) ∙ ap (λ (k : ℕ). sets (sets (set l i x) (suc i) a) k b) e
-
-pub sets-more :
-    (l s : List ℕ) (at i : ℕ)
-    → i < length s
-    → set (sets l at (take i s)) (at + i) (getD s i 0) ≡ sets l at (take (suc i) s)
-sets-more l s at i h =
-    rw (take-suc s i 0 h, sets-append (take i s) (getD s i 0 ∷ []) l at, length-take-le i s (omega arith))
-
-pub sets-front : (l vs : List ℕ) → length vs ≤ length l → sets l 0 vs ≡ vs ++ drop (length vs) l
-sets-front l vs h = sets-eq vs l 0 (omega arith) ∙ rw (zero-add (length vs))
 
 pub overlaid-none : (b : List ℕ) → b ≡ overlaid [] b
 unfolding overlaid encode

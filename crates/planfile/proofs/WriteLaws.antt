@@ -31,9 +31,9 @@ use Rattle.planfile.specs.Parts.{RecordRoom, PutRecord, RoundsRoom, PutR
 use Rattle.planfile.specs.Replies.{WriteFault, short-file, change, Writes, refused, written}
 use Rattle.planfile.specs.declared.write.WriteReply.the-variants.{Written, NotWritten}
 use Rattle.house.proofs.RefusalLaws.{unfit-first}
+use Rattle.house.proofs.StoreLaws.{sets-append, sets-front}
 use Rattle.planfile.proofs.RecordLaws.{record-head}
 use Rattle.planfile.proofs.FileLaws.{rounds-snoc, length-rounds, length-file, file-is}
-use Rattle.planfile.proofs.StoreLaws.{sets-append, sets-front}
 use Rattle.planfile.proofs.LengthLaws.{file-most}
 
 -- ---- a record

@@ -1,10 +1,10 @@
 // Reading a plan file. The records are gone through once, writing nothing, and copied only where nothing is refused.
-use crate::place;
 use crate::record;
 use crate::record::RecordReply;
 use house::Refusal;
 use house::entry;
 use house::put_entry;
+use house::store;
 use house::wide;
 ghost use Rattle.planfile.specs.Parts.{Scans, Fine, Ready, Copied};
 ghost use Rattle.planfile.specs.Replies.{Reads};
@@ -67,7 +67,7 @@ fn copy_rounds(file: &[u8], from: usize, ids: &mut [u8], sizes: &mut [u8]) -> Co
         let size = entry(&file[at..], 0);
         let start = at + 4;
         let end = start + wide(size);
-        place(ids, 2 * count, &file[start..end]);
+        store(ids, 2 * count, &file[start..end]);
         put_entry(sizes, rounds, size / 2);
         count += wide(size) / 2;
         rounds += 1;
@@ -106,8 +106,8 @@ fn copy_all(
     let new_start = old_end + 4;
     let new_end = new_start + b;
     let mode_start = new_end + 4;
-    place(old, 0, &file[old_start..old_end]);
-    place(new, 0, &file[new_start..new_end]);
+    store(old, 0, &file[old_start..old_end]);
+    store(new, 0, &file[new_start..new_end]);
     let mode = entry(&file[mode_start..], 0);
     let c = copy_rounds(file, mode_start + 2, ids, sizes);
     ReadReply::Content(a / 2, b / 2, mode, c.ids, c.rounds)

@@ -1,7 +1,7 @@
 // Writing a plan file.
-use crate::place;
 use house::Refusal;
 use house::entry;
+use house::store;
 use house::wide;
 use rounds::schedule;
 use routes::pair::Judged;
@@ -23,8 +23,8 @@ fn put_record(file: &mut [u8], at: usize, kind: u8, body: &[u8]) -> usize
     let n = body.len();
     let whole = n + 4;
     let head = [(n % 256) as u8, (n / 256) as u8, kind, 0];
-    place(file, at, &head);
-    place(file, at + 4, body);
+    store(file, at, &head);
+    store(file, at + 4, body);
     at + whole
 }
 

@@ -63,29 +63,29 @@ add-new-end c = search needs
 add-mode-start : tie.Need-add-mode-start
 add-mode-start c = search needs
 
-sub-place : tie.Need-sub-place
-sub-place c = search needs
+sub-store : tie.Need-sub-store
+sub-store c = search needs
 
-part-place-start : tie.Need-part-place-start
-part-place-start c = search needs
+part-store-start : tie.Need-part-store-start
+part-store-start c = search needs
 
-part-place-end : tie.Need-part-place-end
-part-place-end c = omega (arith, rounds-within (c .before .before .before .before .before .before .before .before .before .before .pre))
+part-store-end : tie.Need-part-store-end
+part-store-end c = omega (arith, rounds-within (c .before .before .before .before .before .before .before .before .before .before .pre))
 
-place-requires : tie.Need-place-requires
-place-requires c κs = omega (arith, old-fits (c .before .before .before .before .before .before .before .before .before .before .before .pre) (c .before .before .before .before .if2 .left))
+store-requires : tie.Need-store-requires
+store-requires c κs = search needs
 
-sub-place-2 : tie.Need-sub-place-2
-sub-place-2 c = search needs
+sub-store-2 : tie.Need-sub-store-2
+sub-store-2 c = search needs
 
-part-place-start-2 : tie.Need-part-place-start-2
-part-place-start-2 c = search needs
+part-store-start-2 : tie.Need-part-store-start-2
+part-store-start-2 c = search needs
 
-part-place-end-2 : tie.Need-part-place-end-2
-part-place-end-2 c = omega (arith, rounds-within (c .before .before .before .before .before .before .before .before .before .before .before .before .before .before .before .pre))
+part-store-end-2 : tie.Need-part-store-end-2
+part-store-end-2 c = omega (arith, rounds-within (c .before .before .before .before .before .before .before .before .before .before .before .before .before .before .before .pre))
 
-place-requires-2 : tie.Need-place-requires-2
-place-requires-2 c κs = omega (arith, new-fits (c .before .before .before .before .before .before .before .before .before .before .before .before .before .before .before .before .pre) (c .before .before .before .before .before .before .before .if4 .left))
+store-requires-2 : tie.Need-store-requires-2
+store-requires-2 c κs = search needs
 
 sub-entry : tie.Need-sub-entry
 sub-entry c = omega (arith, rounds-within (c .before .before .before .before .before .before .before .before .before .before .before .before .before .before .before .before .before .before .before .pre))
@@ -126,8 +126,8 @@ returns-5 c =
     let t = x .before .before .before in
     let l = t .before .before .before .before .before .before .before .before in
     all-copied (l .before .pre) (t .before .before .before .if1 .left) (t .before .before .if2 .left) (t .before .if3 .left) (t .if4 .left) (low l)
-    (x .place .ensures)
-    (y .place2 .ensures)
+    (x .store .ensures)
+    (y .store2 .ensures)
     (mode-read m)
     (r .copy-rounds .ensures)
 
@@ -143,14 +143,14 @@ copy-all-spec =
     add-new-start
     add-new-end
     add-mode-start
-    sub-place
-    part-place-start
-    part-place-end
-    place-requires
-    sub-place-2
-    part-place-start-2
-    part-place-end-2
-    place-requires-2
+    sub-store
+    part-store-start
+    part-store-end
+    store-requires
+    sub-store-2
+    part-store-start-2
+    part-store-end-2
+    store-requires-2
     sub-entry
     part-entry-start
     part-entry-end

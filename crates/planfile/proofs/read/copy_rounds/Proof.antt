@@ -66,33 +66,20 @@ wide-requires c κs = search needs
 add-end : tie.Need-add-end Inv-loop μ-loop
 add-end c = omega (arith, size-wide c, right-here (c .before .before .before) .within)
 
-mul-place : tie.Need-mul-place Inv-loop μ-loop
-mul-place c = omega (arith, c .before .before .before .before .before .loop .inv .used, c .before .before .before .before .before .loop .inv .within, c .before .before .before .before .before .before .before .before .before .pre .fits)
+mul-store : tie.Need-mul-store Inv-loop μ-loop
+mul-store c = omega (arith, c .before .before .before .before .before .loop .inv .used, c .before .before .before .before .before .loop .inv .within, c .before .before .before .before .before .before .before .before .before .pre .fits)
 
-sub-place : tie.Need-sub-place Inv-loop μ-loop
-sub-place c = search needs
+sub-store : tie.Need-sub-store Inv-loop μ-loop
+sub-store c = search needs
 
-part-place-start : tie.Need-part-place-start Inv-loop μ-loop
-part-place-start c = search needs
+part-store-start : tie.Need-part-store-start Inv-loop μ-loop
+part-store-start c = search needs
 
-part-place-end : tie.Need-part-place-end Inv-loop μ-loop
-part-place-end c = omega (arith, size-wide (c .before), right-here (c .before .before .before .before) .within)
+part-store-end : tie.Need-part-store-end Inv-loop μ-loop
+part-store-end c = omega (arith, size-wide (c .before), right-here (c .before .before .before .before) .within)
 
-place-requires : tie.Need-place-requires Inv-loop μ-loop
-place-requires c κs =
-    let g = c .before .before .before .before .before .before .loop .inv in
-    let r = c .before .before .before .before .before .before .before .before .before .before .pre in
-    let w = right-here (c .before .before .before .before .before) in
-    omega (
-      arith,
-      g .used,
-      r .fits,
-      r .room-ids,
-      copying-ids r g,
-      w .within,
-      length-body w,
-      ap length (part-body (c .before .before .before .before .before .before .before .before .before .before .args .file .now) (c .before .before .before .before .before .before .loop .at) (size-wide (c .before .before))),
-    )
+store-requires : tie.Need-store-requires Inv-loop μ-loop
+store-requires c κs = search needs
 
 put-entry-requires : tie.Need-put-entry-requires Inv-loop μ-loop
 put-entry-requires c κs = search needs
@@ -124,7 +111,7 @@ loop-again c =
     let t = z .before .before .before in
     let l = t .before .before .before .before in
     copying-more (l .before .pre) (t .before .loop .inv) (low l) (t .loop-test .taken) (size-wide z) (size-read (z .before)) (again c)
-    (x .place .ensures)
+    (x .store .ensures)
     (y .put-entry .ensures)
 
 same-length : tie.Need-same-length Inv-loop μ-loop
@@ -150,11 +137,11 @@ copy-rounds-spec =
     add-start
     wide-requires
     add-end
-    mul-place
-    sub-place
-    part-place-start
-    part-place-end
-    place-requires
+    mul-store
+    sub-store
+    part-store-start
+    part-store-end
+    store-requires
     put-entry-requires
     wide-requires-2
     add-count

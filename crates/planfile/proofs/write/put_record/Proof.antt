@@ -14,17 +14,17 @@ cast-t9 c = search needs
 cast-t11 : tie.Need-cast-t11
 cast-t11 c = search needs
 
-slice-aggregate-place : tie.Need-slice-aggregate-place
-slice-aggregate-place c = search needs
+slice-aggregate-store : tie.Need-slice-aggregate-store
+slice-aggregate-store c = search needs
 
-place-requires : tie.Need-place-requires
-place-requires c κs = search needs
+store-requires : tie.Need-store-requires
+store-requires c κs = search needs
 
-add-place : tie.Need-add-place
-add-place c = search needs
+add-store : tie.Need-add-store
+add-store c = search needs
 
-place-requires-2 : tie.Need-place-requires-2
-place-requires-2 c κs = search needs
+store-requires-2 : tie.Need-store-requires-2
+store-requires-2 c κs = search needs
 
 add-result : tie.Need-add-result
 add-result c = search needs
@@ -35,7 +35,7 @@ same-length c = search needs
 returns : tie.Need-returns
 returns c =
     let a = c .before .before .before .before .before .before .before .before .before .before .before in
-    record-stored (omega (arith, a .fits .kind)) (a .pre .short) (c .before .before .before .before .before .before .place .ensures) (c .before .before .place2 .ensures)
+    record-stored (omega (arith, a .fits .kind)) (a .pre .short) (c .before .before .before .before .before .before .store .ensures) (c .before .before .store2 .ensures)
 
 pub put-record-spec : {M : Type 1} → statement M
 put-record-spec =
@@ -44,10 +44,10 @@ put-record-spec =
     add-whole
     cast-t9
     cast-t11
-    slice-aggregate-place
-    place-requires
-    add-place
-    place-requires-2
+    slice-aggregate-store
+    store-requires
+    add-store
+    store-requires-2
     add-result
     same-length
     returns)

@@ -1,11 +1,11 @@
--- `line::no_line` meets its contract: the word, the refusal's three numbers, the ids of the set and a line feed, one behind the other, are
+-- `desk::no_line` meets its contract: the word, the refusal's three numbers, the ids of the set and a line feed, one behind the other, are
 -- the line. Assumes nothing.
 use native.Mathlib.Omega.{arith}
 use borrow.Author.Needs.{needs}
 use Rattle.desk.proofs.LineLaws.{put-join, line-ends}
 use Rattle.desk.proofs.ProgramLaws.{line-told}
-use Rattle.desk.proofs.line.no_line.Statement.{statement}
-use Rattle.desk.proofs.line.no_line.Tie as tie
+use Rattle.desk.proofs.no_line.Statement.{statement}
+use Rattle.desk.proofs.no_line.Tie as tie
 
 tell-requires : tie.Need-tell-requires
 tell-requires c κs = search needs

@@ -1,9 +1,9 @@
--- `line::put_number` meets its contract: a space and the digits behind it are the number's field, of at most 21 bytes. Assumes nothing.
+-- `desk::put_number` meets its contract: a space and the digits behind it are the number's field, of at most 21 bytes. Assumes nothing.
 use native.Mathlib.Omega.{arith}
 use borrow.Author.Needs.{needs}
 use Rattle.desk.proofs.LineLaws.{fewest-short, put-one, field-short, text-length}
-use Rattle.desk.proofs.line.put_number.Statement.{statement}
-use Rattle.desk.proofs.line.put_number.Tie as tie
+use Rattle.desk.proofs.put_number.Statement.{statement}
+use Rattle.desk.proofs.put_number.Tie as tie
 
 decimal-requires : tie.Need-decimal-requires
 decimal-requires c κs = search needs

@@ -1,12 +1,12 @@
--- `line::put_ids` meets its contract. The loop's invariant is `Listing`: the ids below `id` are stored, and `id` is the next one, or
+-- `desk::put_ids` meets its contract. The loop's invariant is `Listing`: the ids below `id` are stored, and `id` is the next one, or
 -- 512. The measure is what is left of the 512 ids. Assumes nothing.
 use Prim.Native.Nat.{_-_}
 use native.Mathlib.Omega.{arith}
 use borrow.Author.Needs.{needs}
 use Rattle.desk.proofs.LineLaws.{text-length}
 use Rattle.desk.proofs.IdLaws.{Listing, listing-none, listing-more, listing-end, lowest-above}
-use Rattle.desk.proofs.line.put_ids.Statement.{statement}
-use Rattle.desk.proofs.line.put_ids.Tie as tie
+use Rattle.desk.proofs.put_ids.Statement.{statement}
+use Rattle.desk.proofs.put_ids.Tie as tie
 
 abbrev Inv-loop : tie.InvT-loop
 Inv-loop out₀ at set next₀ id₀ out next id = Listing out₀ at set id next out

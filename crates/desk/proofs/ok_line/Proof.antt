@@ -1,9 +1,9 @@
--- `line::ok_line` meets its contract: the word, two numbers and a line feed, one behind the other, are the line. Assumes nothing.
+-- `desk::ok_line` meets its contract: the word, two numbers and a line feed, one behind the other, are the line. Assumes nothing.
 use native.Mathlib.Omega.{arith}
 use borrow.Author.Needs.{needs}
 use Rattle.desk.proofs.LineLaws.{put-join, line-ends}
-use Rattle.desk.proofs.line.ok_line.Statement.{statement}
-use Rattle.desk.proofs.line.ok_line.Tie as tie
+use Rattle.desk.proofs.ok_line.Statement.{statement}
+use Rattle.desk.proofs.ok_line.Tie as tie
 
 slice-aggregate-put : tie.Need-slice-aggregate-put
 slice-aggregate-put c = search needs
