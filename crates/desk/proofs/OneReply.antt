@@ -129,13 +129,10 @@ planner-gives-one (planned k h c p e) (wrong-file g l) = absurd (first-not-clear
 planner-gives-one (planned k h c p e) (refused k' h' c' m) =
     let s = one-content k h h' in
     absurd (first-not-clear c' (rw (s .same-old, s .same-new, s .same-mode) at c))
-planner-gives-one (planned {Rs = Rs} k h c p e) (planned {Rs = Ss} k' h' c' q d) =
+planner-gives-one (planned k h c p e) (planned k' h' c' q d) =
     let s = one-content k h h' in
-    let so = s .same-old in
-    let sn = s .same-new in
-    let sm = s .same-mode in
-    let x : Rs ≡ Ss = plan-rounds-one (rw (so, sn, sm) at p) q in
-    e ∙ rw (so, sn, sm, x) (sym d)
+    let x = plan-rounds-one (rw (s .same-old, s .same-new, s .same-mode) at p) q in
+    cc
 
 pub planner-one :
     {f out o1 o2 : List ℕ} {r s : ℕ} → PlannerPuts f out r o1 → PlannerPuts f out s o2 → (r ≡ s) × (o1 ≡ o2)
