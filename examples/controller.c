@@ -1,7 +1,7 @@
 /*
- * A small controller. A tenant's path moves from the old route 1 2 3 to the new route 1 4 3: it plans the change, checks the plan and
- * tells what each switch is told in each round; it shows why another schedule is refused; and it follows a packet through one
- * state.
+ * A small controller. A tenant's path moves from the old route 1 2 3 to the new route 1 4 3, another one from 1 2 3 4 5 to
+ * 1 4 3 2 5. It asks for the quick plan of each change, or where there is none for the ordinary plan, checks the plan and tells
+ * what each switch is told in each round; it shows why another schedule is refused; and it follows a packet through one state.
  *
  *     cc -Iinclude examples/controller.c target/staticlib/libjiwasampu.a -o controller
  */
@@ -9,11 +9,15 @@
 
 #include <stdio.h>
 
-/* Two bytes to an id, the lower first. */
-static const uint8_t old_route[] = {1, 0, 2, 0, 3, 0};
-static const uint8_t new_route[] = {1, 0, 4, 0, 3, 0};
-
 enum { STRONG = 0, NONE = -1 };
+
+/* Two bytes to an id, the lower first; lengths in bytes. */
+struct change {
+    const uint8_t *old_route;
+    size_t old_length;
+    const uint8_t *new_route;
+    size_t new_length;
+};
 
 /* The ids of all rounds, one round after the other, and how many each round has. */
 struct schedule {
@@ -50,6 +54,13 @@ static void print_refusal(struct reply r)
     printf("refused: %u, where %u, place %u\n", r.number, r.where, r.place);
 }
 
+static void print_route(const char *before, const uint8_t *route, size_t length)
+{
+    printf("%s", before);
+    for (size_t i = 0; i < length / 2; i++)
+        printf(" %d", entry(route, i));
+}
+
 static void print_set(const uint8_t set[64])
 {
     const char *before = "{";
@@ -62,14 +73,14 @@ static void print_set(const uint8_t set[64])
 }
 
 /* What each node of each round is told. */
-static void print_rounds(const struct schedule *schedule)
+static void print_rounds(const struct change *c, const struct schedule *schedule)
 {
     size_t at = 0;
     for (unsigned t = 0; t < schedule->rounds; t++) {
         printf("round %u:", t + 1);
         for (int k = entry(schedule->sizes, t); k > 0; k--, at++) {
             int node = entry(schedule->ids, at);
-            int from = rule(old_route, sizeof old_route, node), to = rule(new_route, sizeof new_route, node);
+            int from = rule(c->old_route, c->old_length, node), to = rule(c->new_route, c->new_length, node);
             if (to == NONE)
                 printf(" node %d removes its rule to %d;", node, from);
             else if (from == NONE)
@@ -81,26 +92,33 @@ static void print_rounds(const struct schedule *schedule)
     }
 }
 
-/* The plan of the change. Returns whether there is one. */
-static int plan(struct schedule *schedule)
+/* The quick plan of the change, or where a switch stands in its way the ordinary one. Returns whether there is a plan. */
+static int plan(const struct change *c, struct schedule *schedule)
 {
-    struct reply r = lanes(jiwasampu_plan(old_route, sizeof old_route, new_route, sizeof new_route, STRONG, schedule->ids,
-                                          sizeof schedule->ids, schedule->sizes, sizeof schedule->sizes));
+    const char *kind = "quick plan";
+    struct reply r = lanes(jiwasampu_quick(c->old_route, c->old_length, c->new_route, c->new_length, STRONG, schedule->ids,
+                                           sizeof schedule->ids, schedule->sizes, sizeof schedule->sizes));
+    if (r.number == 19) {
+        printf("no quick plan: node %u goes backward in both orders; the ordinary plan is used\n", r.place);
+        kind = "ordinary plan";
+        r = lanes(jiwasampu_plan(c->old_route, c->old_length, c->new_route, c->new_length, STRONG, schedule->ids,
+                                 sizeof schedule->ids, schedule->sizes, sizeof schedule->sizes));
+    }
     if (r.number != 0) {
         print_refusal(r);
         return 0;
     }
     schedule->rounds = r.where;
     schedule->count = r.place;
-    printf("planned: %u rounds for %u nodes\n", schedule->rounds, schedule->count);
+    printf("%s: %u rounds for %u nodes\n", kind, schedule->rounds, schedule->count);
     return 1;
 }
 
 /* Returns whether the schedule is safe. */
-static int check(const struct schedule *schedule)
+static int check(const struct change *c, const struct schedule *schedule)
 {
     uint8_t set[64];
-    struct reply r = lanes(jiwasampu_check(old_route, sizeof old_route, new_route, sizeof new_route, STRONG, schedule->ids,
+    struct reply r = lanes(jiwasampu_check(c->old_route, c->old_length, c->new_route, c->new_length, STRONG, schedule->ids,
                                            2 * schedule->count, schedule->sizes, 2 * schedule->rounds, set, sizeof set));
     if (r.number == 0) {
         printf("safe: %u rounds, %u nodes are due\n", r.where, r.place);
@@ -114,9 +132,22 @@ static int check(const struct schedule *schedule)
     return r.number == 0;
 }
 
-static void walk(const uint8_t set[64])
+/* Plans the change, checks the plan and prints it. Returns whether all went well. */
+static int prepare(const struct change *c)
 {
-    struct reply r = lanes(jiwasampu_walk(old_route, sizeof old_route, new_route, sizeof new_route, set, 64));
+    static struct schedule planned;
+    print_route("from", c->old_route, c->old_length);
+    print_route(" to", c->new_route, c->new_length);
+    puts("");
+    if (!plan(c, &planned) || !check(c, &planned))
+        return 0;
+    print_rounds(c, &planned);
+    return 1;
+}
+
+static void walk(const struct change *c, const uint8_t set[64])
+{
+    struct reply r = lanes(jiwasampu_walk(c->old_route, c->old_length, c->new_route, c->new_length, set, 64));
     if (r.number != 0)
         print_refusal(r);
     else if (r.where == 0)
@@ -127,19 +158,21 @@ static void walk(const uint8_t set[64])
 
 int main(void)
 {
-    static struct schedule planned;
+    static const uint8_t short_old[] = {1, 0, 2, 0, 3, 0}, short_new[] = {1, 0, 4, 0, 3, 0};
+    static const uint8_t long_old[] = {1, 0, 2, 0, 3, 0, 4, 0, 5, 0}, long_new[] = {1, 0, 4, 0, 3, 0, 2, 0, 5, 0};
+    static const struct change first = {short_old, sizeof short_old, short_new, sizeof short_new};
+    static const struct change second = {long_old, sizeof long_old, long_new, sizeof long_new};
     static const struct schedule hasty = {.ids = {1, 0, 4, 0, 2, 0}, .sizes = {2, 0, 1, 0}, .count = 3, .rounds = 2};
     static const uint8_t only_1[64] = {1 << 1};
 
-    puts("from 1 2 3 to 1 4 3");
-    if (!plan(&planned) || !check(&planned))
+    if (!prepare(&first))
         return 1;
-    print_rounds(&planned);
 
     puts("another schedule: {1,4} {2}");
-    check(&hasty);
+    check(&first, &hasty);
 
     puts("a state: only node 1 has changed");
-    walk(only_1);
-    return 0;
+    walk(&first, only_1);
+
+    return prepare(&second) ? 0 : 1;
 }

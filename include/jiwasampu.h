@@ -3,8 +3,8 @@
  *
  * A carrier's switches change from an old route to a new one in rounds. While a round is under way any subset of its switches
  * has changed. `jiwasampu_check` says whether a schedule of rounds is safe, that is whether no such state drops or loops
- * packets, and names one that does. `jiwasampu_plan` makes a schedule that is. `jiwasampu_walk` follows a packet through one
- * state.
+ * packets, and names one that does. `jiwasampu_plan` makes a schedule that is; `jiwasampu_quick` makes one of at most four
+ * rounds that is, or refuses. `jiwasampu_walk` follows a packet through one state.
  *
  * WHAT IS GIVEN
  *
@@ -55,6 +55,7 @@
  *           the round begins in a state that drops or loops
  *     16    a state of a round drops                                 round   number of ids in the set written
  *     17    a state of a round loops                                 round   number of ids in the set written
+ *     19    a switch goes backward in both orders                    0       the lowest such id
  *
  * Route 1 is the old, 2 the new. Rounds count from 1. An index counts from 0; that of an id in a schedule counts over all
  * rounds. Of all refusals that apply the lowest number is given, and within one number the old route before the new, then the
@@ -64,9 +65,10 @@
  *
  * A call always returns. It keeps nothing from one call to the next, allocates nothing, does no input or output and calls
  * nothing but memcpy and memset, so threads may call at the same time where no slice that is written is shared. A call needs
- * less than 16 KiB of stack (jiwasampu_check and jiwasampu_plan take about 9 KiB, jiwasampu_walk about 4.5 KiB).
+ * less than 16 KiB of stack (jiwasampu_check and jiwasampu_plan take about 9 KiB, jiwasampu_quick about 7 KiB, jiwasampu_walk
+ * about 4.5 KiB).
  *
- * Every reply, and what a call leaves in memory, is proved for all inputs: CheckCall, PlanCall and WalkCall in
+ * Every reply, and what a call leaves in memory, is proved for all inputs: CheckCall, PlanCall, QuickCall and WalkCall in
  * crates/jiwasampu/specs/Lanes.antt say what, and crates/jiwasampu/proofs/OneReply.antt that no second reply fits.
  */
 #ifndef JIWASAMPU_H
@@ -131,6 +133,35 @@ uint64_t jiwasampu_check(const uint8_t *old_route, size_t old_route_length, cons
  */
 uint64_t jiwasampu_plan(const uint8_t *old_route, size_t old_route_length, const uint8_t *new_route, size_t new_route_length,
                         uint16_t mode, uint8_t *ids, size_t ids_length, uint8_t *sizes, size_t sizes_length);
+
+/*
+ * Plans a change with at most four rounds, or refuses. First round: all installs, if there are any. Last round: all removes, if
+ * there are any. Between them the switches, the nodes that go from one rule to another: those with a positive old-order jump in
+ * one round, and the rest in a second; a round that would be empty is left out. The rounds are the same in either mode.
+ *
+ *   old_route, new_route   the routes
+ *   mode                   which loops count: 0 strong, 1 relaxed
+ *   ids                    lent, 1,024 bytes or more: where the ids of the rounds are written, one round after the other
+ *   sizes                  lent, 1,024 bytes or more: where the sizes of the rounds are written
+ *
+ * For a node on both routes, other than the destination, the next meeting node along a route is the first later node there that
+ * is on both. The old-order jump is the position on the old route of the next meeting node along the new route, less the node's
+ * own position there; the new-order jump is the same with the two routes exchanged. A jump is never 0, and goes backward when
+ * it is negative.
+ *
+ * Yes: number is 0, where the number of rounds, place the number of ids written, node 0.
+ *
+ * Refused: 1, 4 to 8 or 19. 1 is given when old_route or new_route has an odd length, or ids or sizes fewer than 1,024 bytes. 19
+ * is given when a switch goes backward in both orders; jiwasampu_plan has a plan for such a change, and no schedule of this form
+ * passes, in either mode, with the switches in two rounds.
+ *
+ * What is written is what jiwasampu_plan writes for the same change, and jiwasampu_check says yes to it in both modes.
+ *
+ * Memory: a yes writes the first 2 * place bytes of ids and the first 2 * where bytes of sizes; what lies past them is kept. A
+ * refusal changes nothing. What ids and sizes held before does not matter.
+ */
+uint64_t jiwasampu_quick(const uint8_t *old_route, size_t old_route_length, const uint8_t *new_route, size_t new_route_length,
+                         uint16_t mode, uint8_t *ids, size_t ids_length, uint8_t *sizes, size_t sizes_length);
 
 /*
  * Follows a packet from the source in one state: the nodes of the set use their new rules, all others their old ones.

@@ -1,6 +1,6 @@
 //! The calls that are measured: what each is given and lent, and its two answers, the proved one and the plain one.
 
-use crate::plain::{check::*, file::*, plan::*, searches::*, walk::*, Choice, Table};
+use crate::plain::{check::*, file::*, plan::*, quick::*, searches::*, walk::*, Choice, Table};
 
 #[link(name = "jiwasampu", kind = "static")]
 extern "C" {
@@ -9,6 +9,10 @@ extern "C" {
         ids: *const u8, ids_size: usize, sizes: *const u8, sizes_size: usize, set: *mut u8, set_size: usize,
     ) -> u64;
     fn jiwasampu_plan(
+        old: *const u8, old_size: usize, new: *const u8, new_size: usize, mode: u16,
+        ids: *mut u8, ids_size: usize, sizes: *mut u8, sizes_size: usize,
+    ) -> u64;
+    fn jiwasampu_quick(
         old: *const u8, old_size: usize, new: *const u8, new_size: usize, mode: u16,
         ids: *mut u8, ids_size: usize, sizes: *mut u8, sizes_size: usize,
     ) -> u64;
@@ -56,6 +60,7 @@ pub enum Input {
     Cyclic(Box<Graph>),
     Check(Change),
     Plan(Change),
+    Quick(Change),
     Walk(Change),
     Read(Vec<u8>),
     Write(Change),
@@ -77,7 +82,7 @@ impl Input {
         match self {
             Input::Reach(_) | Input::Cyclic(_) | Input::Walk(_) => [0; 4],
             Input::Check(_) => [64, 0, 0, 0],
-            Input::Plan(_) => [1024, 1024, 0, 0],
+            Input::Plan(_) | Input::Quick(_) => [1024, 1024, 0, 0],
             Input::Read(_) => [512, 512, 4096, 2048],
             Input::Write(_) => [4092, 0, 0, 0],
         }
@@ -107,6 +112,10 @@ pub fn proved(input: &Input, lent: &mut Lent) -> u64 {
                 x.old.as_ptr(), x.old.len(), x.new.as_ptr(), x.new.len(), x.mode,
                 a.as_mut_ptr(), a.len(), b.as_mut_ptr(), b.len(),
             ),
+            Input::Quick(x) => jiwasampu_quick(
+                x.old.as_ptr(), x.old.len(), x.new.as_ptr(), x.new.len(), x.mode,
+                a.as_mut_ptr(), a.len(), b.as_mut_ptr(), b.len(),
+            ),
             Input::Walk(x) => jiwasampu_walk(
                 x.old.as_ptr(), x.old.len(), x.new.as_ptr(), x.new.len(), x.set.as_ptr(), x.set.len(),
             ),
@@ -132,6 +141,7 @@ pub fn plain(input: &Input, lent: &mut Lent) -> u64 {
         Input::Cyclic(g) => plain_cyclic(&g.old, &g.new, &g.choice, &g.alive) as u64,
         Input::Check(x) => plain_check(&x.old, &x.new, x.mode, &x.ids, &x.sizes, a),
         Input::Plan(x) => plain_plan(&x.old, &x.new, x.mode, a, b),
+        Input::Quick(x) => plain_quick(&x.old, &x.new, x.mode, a, b),
         Input::Walk(x) => plain_walk(&x.old, &x.new, &x.set),
         Input::Read(file) => plain_read(file, a, b, c, d),
         Input::Write(x) => plain_write(&x.old, &x.new, x.mode, &x.ids, &x.sizes, a),
@@ -144,6 +154,20 @@ pub fn whole(input: &Input, lent: &mut Lent) -> u64 {
     match input {
         Input::Plan(x) => plain_whole(&x.old, &x.new, x.mode, a, b),
         _ => plain(input, lent),
+    }
+}
+
+/// As `proved`, but the planner answers in place of the quick one.
+pub fn planner(input: &Input, lent: &mut Lent) -> u64 {
+    let [a, b, _, _] = &mut lent.parts;
+    match input {
+        Input::Quick(x) => unsafe {
+            jiwasampu_plan(
+                x.old.as_ptr(), x.old.len(), x.new.as_ptr(), x.new.len(), x.mode,
+                a.as_mut_ptr(), a.len(), b.as_mut_ptr(), b.len(),
+            )
+        },
+        _ => proved(input, lent),
     }
 }
 

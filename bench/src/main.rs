@@ -11,18 +11,18 @@ mod random;
 mod table;
 mod worst;
 
-use calls::{plain, proved, same, whole, Lent};
+use calls::{plain, planner, proved, same, whole, Lent};
 use measure::{measured, stack, Measured};
 use random::Random;
 use std::collections::BTreeMap;
 use std::hint::black_box;
-use worst::{against_whole, rows, Row};
+use worst::{against_others, rows, Row};
 
-const CALLS: [&str; 7] = ["reach", "cyclic", "check", "plan", "walk", "read", "write"];
+const CALLS: [&str; 8] = ["reach", "cyclic", "check", "plan", "quick", "walk", "read", "write"];
 
-/// All rows; the last is the one against tests of whole rounds.
+/// All rows; the last two are against another algorithm.
 fn all_rows() -> impl Iterator<Item = Row> {
-    rows().into_iter().chain([against_whole()])
+    rows().into_iter().chain(against_others())
 }
 
 fn compare() {
@@ -36,6 +36,9 @@ fn compare() {
             let reply = same(call, &input, room, [proved, plain]);
             if call == "plan" {
                 same(call, &input, room, [proved, whole]);
+            }
+            if call == "quick" && reply & 65_535 != 19 {
+                same(call, &input, room, [proved, planner]);
             }
             let number = reply & if call == "read" || call == "write" { 15 } else { 65_535 };
             *seen.entry(number).or_insert(0) += 1;
@@ -97,8 +100,8 @@ fn table(counts: &[u64]) {
     assert!(left.next().is_none(), "a count for each answer");
     table::print(&all);
     println!();
-    let (whole, same) = all.split_last().unwrap();
-    table::targets(same, &whole.1);
+    let (same, others) = all.split_at(all.len() - 2);
+    table::targets(same, &others[0].1);
     println!("stack in bytes over these and 500 random inputs, target below 16,384:\n  {}", deepest(&all));
 }
 

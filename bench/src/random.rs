@@ -74,6 +74,28 @@ impl Random {
         x
     }
 
+    /// A change between near routes: along the new one, parts of the old one are rotated and some of its nodes are others. It
+    /// mostly has a quick plan; now and then two nodes far apart are exchanged, and it has none.
+    fn near(&mut self) -> Change {
+        let ids = self.shuffled((0..512).collect());
+        let (inner, size) = (self.below(255) as usize, [2, 3, 8, 64][self.below(4) as usize]);
+        let mut new = ids[..inner].to_vec();
+        for part in new.chunks_mut(size) {
+            part.rotate_left(self.below(part.len() as u64) as usize);
+        }
+        if self.one_in(3) && inner > 0 {
+            new.swap(self.below(inner as u64) as usize, self.below(inner as u64) as usize);
+        }
+        let others = 2 + self.below(20);
+        for at in 0..inner {
+            if self.one_in(others) {
+                new[at] = ids[256 + at];
+            }
+        }
+        let route = |inner: &[u16]| [&ids[510..511], inner, &ids[511..]].concat();
+        change(&route(&ids[..inner]), &route(&new), self.below(2) as u16, &[])
+    }
+
     /// A change, now and then with a list that lacks a byte or an entry.
     fn marred(&mut self) -> Change {
         let mut x = self.change();
@@ -138,6 +160,7 @@ impl Random {
             "cyclic" => Input::Cyclic(self.graph()),
             "check" => Input::Check(self.marred()),
             "plan" => Input::Plan(self.marred()),
+            "quick" => Input::Quick(if self.one_in(3) { self.near() } else { self.marred() }),
             "walk" => Input::Walk(self.marred()),
             "read" => Input::Read(self.file()),
             "write" => Input::Write(self.marred()),

@@ -1,6 +1,6 @@
 //! The worst cases of each call, for any number of nodes on a route up to 256. A change's ids are 0 to 511.
 
-use crate::calls::{plain, whole, Answer, Change, Graph, Input};
+use crate::calls::{plain, planner, whole, Answer, Change, Graph, Input};
 use crate::plain::{lanes, packed};
 use crate::random::Random;
 
@@ -205,6 +205,16 @@ fn plans(m: u16, mode: &str) -> Vec<Row> {
     ]
 }
 
+/// The mode makes no difference.
+fn quicks() -> Vec<Row> {
+    let planned = |rounds, ids| lanes(Ok([0, rounds, ids, 0]));
+    vec![
+        row("quick", "255 switches in two rounds", planned(2, 255), |n| Input::Quick(riffled(n, 0))),
+        row("quick", "disjoint interiors", planned(3, 509), |n| Input::Quick(apart(n, 1, 0))),
+        row("quick", "reversal, refused", lanes(Err((19, 0, 2))), |n| Input::Quick(reversal(n, 0))),
+    ]
+}
+
 fn files() -> Vec<Row> {
     let content = |route, ids, rounds| packed(Ok([0, route, route, ids, rounds, 0]));
     let written = |size| packed(Ok([0, 0, 0, size, 0, 0]));
@@ -218,10 +228,13 @@ fn files() -> Vec<Row> {
     ]
 }
 
-/// The strong reversal against plain code that tests the whole round again.
-pub fn against_whole() -> Row {
-    let reply = lanes(Ok([0, 254, 255, 0]));
-    Row { other: whole, ..row("plan", "reversal, strong, to whole rounds", reply, |n| Input::Plan(reversal(n, 0))) }
+/// The strong reversal against plain code that tests the whole round again, and the quick planner against the planner.
+pub fn against_others() -> [Row; 2] {
+    let (reversed, quick) = (lanes(Ok([0, 254, 255, 0])), lanes(Ok([0, 2, 255, 0])));
+    [
+        Row { other: whole, ..row("plan", "reversal, strong, to whole rounds", reversed, |n| Input::Plan(reversal(n, 0))) },
+        Row { other: planner, ..row("quick", "255 switches, strong, to the plan", quick, |n| Input::Quick(riffled(n, 0))) },
+    ]
 }
 
 /// The rows in which both answers have the same algorithm.
@@ -235,6 +248,7 @@ pub fn rows() -> Vec<Row> {
         .chain(each(loops))
         .chain([row("refuse", "a first round of 509 drops", dropped, |n| Input::Check(dropping(n)))])
         .chain(each(plans))
+        .chain(quicks())
         .chain([row("walk", "508 hops, all of both routes", arrived, |n| Input::Walk(longest(n)))])
         .chain([row("walk", "a loop after 507 hops", looped, |n| Input::Walk(round_about(n)))])
         .chain(files())

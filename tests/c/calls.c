@@ -93,6 +93,66 @@ static void walk_replies(void)
     expect("no routes", jiwasampu_walk(NULL, 0, NULL, 0, set, 64), 4, 1, 0, 0);
 }
 
+/* From 1 2 3 8 4 to 1 3 2 9 4: 9 is installed, 1 and 2 go forward in the old order, 3 backward, and 8 is removed. */
+static const uint8_t four_old[] = {1, 0, 2, 0, 3, 0, 8, 0, 4, 0}, four_new[] = {1, 0, 3, 0, 2, 0, 9, 0, 4, 0};
+static const uint8_t ids_91238[] = {9, 0, 1, 0, 2, 0, 3, 0, 8, 0}, sizes_1211[] = {1, 0, 2, 0, 1, 0, 1, 0};
+
+static uint8_t quick_ids[1030], quick_sizes[1029];
+
+static uint64_t quick(const uint8_t *old_route, size_t old_length, const uint8_t *new_route, size_t new_length, unsigned mode,
+                      size_t ids_length, size_t sizes_length)
+{
+    memset(quick_ids, 0xa5, sizeof quick_ids);
+    memset(quick_sizes, 0x5a, sizeof quick_sizes);
+    return jiwasampu_quick(old_route, old_length, new_route, new_length, (uint16_t)mode, quick_ids, ids_length, quick_sizes,
+                           sizes_length);
+}
+
+/* What was lent begins with these ids and sizes, and is otherwise as it was. */
+static void expect_rounds(const char *name, const uint8_t *ids, size_t ids_length, const uint8_t *sizes, size_t sizes_length)
+{
+    if (ids_length != 0 && memcmp(quick_ids, ids, ids_length) != 0) {
+        printf("%s: other ids\n", name);
+        faults++;
+    }
+    if (sizes_length != 0 && memcmp(quick_sizes, sizes, sizes_length) != 0) {
+        printf("%s: other sizes\n", name);
+        faults++;
+    }
+    expect_bytes(name, quick_ids + ids_length, 0xa5, 0xa5, sizeof quick_ids - ids_length);
+    expect_bytes(name, quick_sizes + sizes_length, 0x5a, 0x5a, sizeof quick_sizes - sizes_length);
+}
+
+static void expect_kept(const char *name)
+{
+    expect_rounds(name, NULL, 0, NULL, 0);
+}
+
+static void quick_replies(void)
+{
+    for (unsigned mode = 0; mode < 2; mode++) {
+        expect("quick, K1", quick(k3_old, 4, k3_old, 4, mode, 1030, 1029), 0, 0, 0, 0);
+        expect_kept("quick, K1, lent");
+        expect("quick, K3", quick(k3_old, 6, k3_new, 6, mode, 1024, 1024), 0, 3, 3, 0);
+        expect_rounds("quick, K3, rounds", ids_412, 6, sizes_111, 6);
+        expect("quick, four rounds", quick(four_old, 10, four_new, 10, mode, 1030, 1029), 0, 4, 5, 0);
+        expect_rounds("quick, four rounds, rounds", ids_91238, 10, sizes_1211, 8);
+        expect("quick, K6", quick(k6_old, 10, k6_new, 10, mode, 1024, 1024), 19, 0, 3, 0);
+        expect_kept("quick, K6, lent");
+    }
+    expect("quick, mode 2", quick(k3_old, 6, k3_new, 6, 2, 1024, 1024), 8, 0, 0, 0);
+    expect_kept("quick, mode 2, lent");
+    expect("quick, mode 2 before 19", quick(k6_old, 10, k6_new, 10, 2, 1024, 1024), 8, 0, 0, 0);
+    expect("quick, short ids", quick(k6_old, 10, k6_new, 10, 0, 1023, 1024), 1, 0, 0, 0);
+    expect("quick, short sizes", quick(k3_old, 6, k3_new, 6, 0, 1024, 1023), 1, 0, 0, 0);
+    expect("quick, odd route", quick(k3_old, 6, k3_new, 5, 0, 1024, 1024), 1, 0, 0, 0);
+    expect("quick, no routes", quick(NULL, 0, NULL, 0, 0, 1024, 1024), 4, 1, 0, 0);
+    expect("quick, new of one id", quick(k3_old, 6, k3_new, 2, 0, 1024, 1024), 4, 2, 0, 0);
+    expect("quick, last ids differ", quick(k3_old, 6, k3_new, 4, 0, 1024, 1024), 7, 0, 1, 0);
+    expect_kept("quick, last ids differ, lent");
+    expect("quick, nothing at all", jiwasampu_quick(NULL, 0, NULL, 0, 0, NULL, 0, NULL, 0), 1, 0, 0, 0);
+}
+
 /* 70,001 rounds of one id; only the last id is not due. */
 static void wide_lanes(void)
 {
@@ -184,9 +244,10 @@ static void run_walks(void)
 }
 
 /* The same change planned, and the reversal of the longest route, in both modes: the planner's longest way. */
+static uint8_t turned[512], ids[1024], sizes[1024];
+
 static void run_plans(void)
 {
-    static uint8_t turned[512], ids[1024], sizes[1024];
     for (int i = 0; i < 256; i++) {
         int id = i == 0 || i == 255 ? i : 255 - i;
         turned[2 * i] = (uint8_t)id;
@@ -198,18 +259,30 @@ static void run_plans(void)
     }
 }
 
+/* The same changes for the quick planner, and one with all four rounds. */
+static void run_quick(void)
+{
+    for (uint16_t mode = 0; mode < 2; mode++) {
+        jiwasampu_quick(long_old, sizeof long_old, long_new, sizeof long_new, mode, ids, sizeof ids, sizes, sizeof sizes);
+        jiwasampu_quick(long_old, sizeof long_old, turned, sizeof turned, mode, ids, sizeof ids, sizes, sizeof sizes);
+        jiwasampu_quick(four_old, sizeof four_old, four_new, sizeof four_new, mode, ids, sizeof ids, sizes, sizeof sizes);
+    }
+}
+
 int main(void)
 {
     check_replies();
+    quick_replies();
     walk_replies();
     wide_lanes();
     odd_addresses();
     long_change();
     expect("509 rounds", long_check(0), 0, 509, 509, 0);
 
-    size_t check = depth(run_checks), plan = depth(run_plans), walk = depth(run_walks);
-    printf("stack: check %zu bytes, plan %zu bytes, walk %zu bytes, limit %d\n", check, plan, walk, STACK_LIMIT);
-    if (check >= STACK_LIMIT || plan >= STACK_LIMIT || walk >= STACK_LIMIT)
+    size_t check = depth(run_checks), plan = depth(run_plans), quick = depth(run_quick), walk = depth(run_walks);
+    printf("stack: check %zu bytes, plan %zu bytes, quick %zu bytes, walk %zu bytes, limit %d\n", check, plan, quick, walk,
+           STACK_LIMIT);
+    if (check >= STACK_LIMIT || plan >= STACK_LIMIT || quick >= STACK_LIMIT || walk >= STACK_LIMIT)
         faults++;
     return faults != 0;
 }

@@ -5,6 +5,7 @@ pub mod check;
 pub mod file;
 pub mod judge;
 pub mod plan;
+pub mod quick;
 pub mod searches;
 pub mod walk;
 

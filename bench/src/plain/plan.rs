@@ -70,16 +70,16 @@ impl Joining for Whole {
 }
 
 /// What is written so far.
-struct Out<'a> {
-    ids: &'a mut [u8],
-    sizes: &'a mut [u8],
-    rounds: usize,
-    count: usize,
+pub struct Out<'a> {
+    pub ids: &'a mut [u8],
+    pub sizes: &'a mut [u8],
+    pub rounds: usize,
+    pub count: usize,
 }
 
 impl Out<'_> {
     /// Writes the present round and places it; a round of no node is none.
-    fn round(&mut self, choice: &mut Choice) {
+    pub fn round(&mut self, choice: &mut Choice) {
         let first = self.count;
         for v in 0..512 {
             if choice[v] == 2 {
@@ -95,8 +95,8 @@ impl Out<'_> {
     }
 }
 
-/// The rounds and the ids written, or the refusal.
-fn planned<J: Joining>(old: &[u8], new: &[u8], mode: u16, ids: &mut [u8], sizes: &mut [u8]) -> Result<[usize; 4], Refusal> {
+/// The refusals that both planners give, 1 and 4 to 8.
+pub fn fit(old: &[u8], new: &[u8], mode: u16, ids: &[u8], sizes: &[u8]) -> Result<(), Refusal> {
     if ids.len() < 1024 || sizes.len() < 1024 {
         return Err((1, 0, 0));
     }
@@ -104,6 +104,12 @@ fn planned<J: Joining>(old: &[u8], new: &[u8], mode: u16, ids: &mut [u8], sizes:
     if mode > 1 {
         return Err((8, 0, 0));
     }
+    Ok(())
+}
+
+/// The rounds and the ids written, or the refusal.
+fn planned<J: Joining>(old: &[u8], new: &[u8], mode: u16, ids: &mut [u8], sizes: &mut [u8]) -> Result<[usize; 4], Refusal> {
+    fit(old, new, mode, ids, sizes)?;
     let (a, b) = (judge::next_values(old), judge::next_values(new));
     let source = entry(old, 0) as usize;
     let mut out = Out { ids, sizes, rounds: 0, count: 0 };

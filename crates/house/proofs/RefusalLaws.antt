@@ -36,6 +36,7 @@ use Rattle.house.specs.declared.Refusal.the-variants.{
   Drop,
   Loop,
   NoJump,
+  BothBackward,
 }
 
 -- the refusal with the number n, the site w and the place p: `Unfit` stands for the number 0 too, and the last past the end
@@ -60,9 +61,10 @@ back n w p =
     ∷ BeginsFaulty w
     ∷ Drop w p
     ∷ Loop w p
+    ∷ NoJump p
     ∷ [])
     n
-    (NoJump p)
+    (BothBackward p)
 
 back-told : (r : Refusal) → back (number r) (site r) (place r) ≡ r
 unfolding back
@@ -84,6 +86,7 @@ back-told (BeginsFaulty t) = refl
 back-told (Drop t m) = refl
 back-told (Loop t m) = refl
 back-told (NoJump v) = refl
+back-told (BothBackward v) = refl
 
 pub told-one : {q r : Refusal} → number q ≡ number r → site q ≡ site r → place q ≡ place r → q ≡ r
 told-one {q} {r} n s p = cc (back-told q, back-told r)
@@ -154,6 +157,7 @@ number-least (BeginsFaulty w) = omega arith
 number-least (Drop w p) = omega arith
 number-least (Loop w p) = omega arith
 number-least (NoJump w) = omega arith
+number-least (BothBackward w) = omega arith
 
 pub unfit-first : {F : Refusal → Type 0} → F Unfit → First F Unfit
 unfit-first f = record { applies = f; lowest = λ q g b. go (number-least q) b }

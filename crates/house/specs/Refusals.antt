@@ -27,6 +27,7 @@ use Rattle.house.specs.declared.Refusal.the-variants.{
   Drop,
   Loop,
   NoJump,
+  BothBackward,
 }
 
 abbrev pub number : Refusal → ℕ
@@ -48,6 +49,7 @@ number (BeginsFaulty t) = 15
 number (Drop t m) = 16
 number (Loop t m) = 17
 number (NoJump v) = 18
+number (BothBackward v) = 19
 
 abbrev pub site : Refusal → ℕ
 site Unfit = 0
@@ -68,6 +70,7 @@ site (BeginsFaulty t) = t
 site (Drop t m) = t
 site (Loop t m) = t
 site (NoJump v) = 0
+site (BothBackward v) = 0
 
 abbrev pub place : Refusal → ℕ
 place Unfit = 0
@@ -88,6 +91,7 @@ place (BeginsFaulty t) = 0
 place (Drop t m) = m
 place (Loop t m) = m
 place (NoJump v) = v
+place (BothBackward v) = v
 
 pub data Before (q r : Refusal) : Type 0 where
   lower : number q < number r → Before q r

@@ -12,7 +12,7 @@ ghost use Rattle.house.specs.Numbers.{le, entries, words, eight, putNumb
 ghost use Rattle.house.specs.Sets.{has, put, size, Lowest};
 ghost use Rattle.house.specs.Refusals.{number, site, place};
 
-// The refusals, in the order of their numbers, 1 to 18. A route is 1 for the old one and 2 for the new; rounds count from
+// The refusals, in the order of their numbers, 1 to 19. A route is 1 for the old one and 2 for the new; rounds count from
 // 1, indexes from 0.
 pub enum Refusal {
     // 1: a lent output is too short, a given set isn't eight words, or a byte input isn't whole entries
@@ -51,6 +51,8 @@ pub enum Refusal {
     Loop(usize, usize),
     // 18: the node asked for has no jump
     NoJump(usize),
+    // 19: a switch that goes backward in both orders: the lowest such id
+    BothBackward(usize),
 }
 
 // A refusal's number, where (`site`) and place.
@@ -142,22 +144,32 @@ pub fn put_word(b: &mut [u8], i: usize, x: u64)
     }
 }
 
-// Copies the bytes of `from` into `to`, from the offset `at` on; those for which `to` is too short are left out.
-pub fn store(to: &mut [u8], at: usize, from: &[u8])
+// Copies the bytes of `from` into `to`, from the offset `at` on.
+fn copy(to: &mut [u8], at: usize, from: &[u8])
+    requires { ⌜ at + length (now from) ≤ length (now to) ⌝ }
     ensures { λ r. ⌜ now (to .exit) ≡ sets (now (to .entry)) at (now (from .entry)) ⌝ }
 {
     let n = from.len();
     let mut i = 0;
     while i < n {
-        if to.len() <= at {
-            return;
-        }
-        if to.len() - at <= i {
-            return;
-        }
         to[at + i] = from[i];
         i += 1;
     }
+}
+
+// Copies the bytes of `from` into `to`, from the offset `at` on; those for which `to` is too short are left out.
+pub fn store(to: &mut [u8], at: usize, from: &[u8])
+    ensures { λ r. ⌜ now (to .exit) ≡ sets (now (to .entry)) at (now (from .entry)) ⌝ }
+{
+    if to.len() <= at {
+        return;
+    }
+    let room = to.len() - at;
+    if room < from.len() {
+        copy(to, at, &from[..room]);
+        return;
+    }
+    copy(to, at, from);
 }
 
 // The set that the first eight words of `b` are; a word that is not there is 0.
@@ -276,6 +288,7 @@ pub fn tell(r: Refusal) -> Told
         Refusal::Drop(t, m) => three(16, t, m),
         Refusal::Loop(t, m) => three(17, t, m),
         Refusal::NoJump(v) => three(18, 0, v),
+        Refusal::BothBackward(v) => three(19, 0, v),
     }
 }
 

@@ -6,7 +6,7 @@ use rounds::check::Checked;
 use routes::walk::Walked;
 ghost use Prim.Native.Nat.{_<_, min};
 ghost use mathlib.Core.Path.{_≡_};
-ghost use Rattle.jiwasampu.specs.Lanes.{lanes, refusalLanes, CheckCall, PlanCall, WalkCall};
+ghost use Rattle.jiwasampu.specs.Lanes.{lanes, refusalLanes, planLanes, CheckCall, PlanCall, QuickCall, WalkCall};
 
 // A number as a lane: 65,535 where it does not fit.
 fn lane(x: usize) -> u64
@@ -31,6 +31,16 @@ fn refused(r: Refusal) -> u64
 {
     let told = house::tell(r);
     pack(told.number, told.site, told.place, 0)
+}
+
+// The lanes of a planner's reply.
+fn planned(reply: Planned) -> u64
+    ensures { λ r. ⌜ r ≡ planLanes reply ⌝ }
+{
+    match reply {
+        Planned::Given(rounds, count) => pack(0, rounds, count, 0),
+        Planned::Refused(r) => refused(r),
+    }
 }
 
 // Checks anybody's schedule: number 0 with the rounds and the due nodes, or the refusal. 16 and 17 write the subset's eight
@@ -64,10 +74,21 @@ pub extern "C" fn jiwasampu_plan(
 ) -> u64
     ensures { λ r. ⌜ PlanCall (now (old .entry)) (now (new .entry)) mode (now (ids .entry)) (now (sizes .entry)) r (now (ids .exit)) (now (sizes .exit)) ⌝ }
 {
-    match plans::plan::plan(old, new, mode, ids, sizes) {
-        Planned::Given(rounds, count) => pack(0, rounds, count, 0),
-        Planned::Refused(r) => refused(r),
-    }
+    planned(plans::plan::plan(old, new, mode, ids, sizes))
+}
+
+// Plans a change with the switches in at most two rounds, or refuses it: as `jiwasampu_plan`, and with 19 too.
+#[no_mangle]
+pub extern "C" fn jiwasampu_quick(
+    old: &[u8],
+    new: &[u8],
+    mode: u16,
+    ids: &mut [u8],
+    sizes: &mut [u8],
+) -> u64
+    ensures { λ r. ⌜ QuickCall (now (old .entry)) (now (new .entry)) mode (now (ids .entry)) (now (sizes .entry)) r (now (ids .exit)) (now (sizes .exit)) ⌝ }
+{
+    planned(plans::quick::quick(old, new, mode, ids, sizes))
 }
 
 // Walks one state: number 0 with 0 arrived, 1 dropped or 2 looped, the hops and the node, or the refusal.

@@ -11,9 +11,9 @@ use Rattle.routes.specs.Routes.{Good}
 use Rattle.routes.specs.Walk.{State}
 use Rattle.rounds.specs.Schedule.{Schedule}
 use Rattle.rounds.specs.States.{Passes}
-use Rattle.plans.specs.Plan.{together, installs, switches, PlanRounds, idsOf, sizesOf}
+use Rattle.plans.specs.Plan.{together, installs, switches, PlanRounds, idsOf, sizesOf, switched}
 use Rattle.plans.proofs.IdLists.{or-left, or-right}
-use Rattle.plans.proofs.PlanSets.{switched, plan-schedule, plan-passes, plan-count}
+use Rattle.plans.proofs.PlanSets.{plan-schedule, plan-passes, plan-count}
 use Rattle.plans.proofs.FixedRounds.{first-passes, last-passes}
 use Rattle.plans.proofs.Middles.{plan-exists}
 

@@ -24,10 +24,10 @@ use Rattle.routes.specs.Walk.{State}
 use Rattle.routes.proofs.RuleLaws.{good-swap}
 use Rattle.rounds.specs.States.{Fault, a-drop, a-loop}
 use Rattle.rounds.proofs.Bridge.{RouteStep, Finds}
-use Rattle.plans.specs.Plan.{RoundPasses, nothing, isInstall, isRemove, isSwitch, installs, removes}
+use Rattle.plans.specs.Plan.{RoundPasses, nothing, isInstall, isRemove, isSwitch, installs, removes, switched}
 use Rattle.plans.specs.Working.{roundChoice}
 use Rattle.plans.proofs.IdLists.{clash}
-use Rattle.plans.proofs.PlanSets.{switched, over-passes}
+use Rattle.plans.proofs.PlanSets.{over-passes}
 use Rattle.plans.proofs.NodeLaws.{On, OnWay, on-value, source-on, way-not-nothing, onward-next, way-next}
 use Rattle.plans.proofs.NodeLaws.{Kind, kept, install, remove, switch, kind, install-values, install-remove}
 use Rattle.plans.proofs.PlanPaths.{passes-finds, finds-maps, acyclic-finds, Goes, by-new, by-old, step-goes, goes-step}

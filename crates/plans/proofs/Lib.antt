@@ -8,6 +8,11 @@ pub mod PlanSets
 pub mod OneReply
 pub mod Middles
 pub mod Demand2
+pub mod Signs
+pub mod Climb
+pub mod Stuck
+pub mod Halves
+pub mod TwoRounds
 pub mod CheckAccepts
 pub mod Compute
 pub mod ComputeFaults
@@ -22,3 +27,5 @@ pub mod MarkLaws
 pub mod PassLaws
 pub mod MiddleLaws
 pub mod PlanLaws
+pub mod QuickLaws
+pub mod QuickAnswers

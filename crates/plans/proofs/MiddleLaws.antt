@@ -31,14 +31,36 @@ use Rattle.routes.proofs.RuleLaws.{tally-cong, due-below}
 use Rattle.rounds.specs.States.{Fault, a-drop, a-loop}
 use Rattle.rounds.specs.Packet.{changed}
 use Rattle.rounds.proofs.Bridge.{Finds, Chooses, paths-same, around-same}
-use Rattle.plans.specs.Plan.{RoundPasses, Joining, nothing, together, Middle, all-placed, a-round, installs, removes, switches, rising, some-round}
+use Rattle.plans.specs.Plan.{
+  RoundPasses,
+  Joining,
+  nothing,
+  together,
+  Middle,
+  all-placed,
+  a-round,
+  installs,
+  switches,
+  rising,
+  some-round,
+  switched,
+}
 use Rattle.plans.specs.Plan as plan
 use Rattle.plans.specs.Working.{roundChoice, placed, present, Closes, Fits, Free, Tries, all-tried, joins, waits}
 use Rattle.plans.specs.Working.{Lined, Passed, Added, Room, Wrote, Setting, Ahead, Middled}
-use Rattle.plans.proofs.IdLists.{by-bool, clash, or-left, or-right, on-first, on-rest, index-on, Distinct, distinct-index}
+use Rattle.plans.proofs.IdLists.{
+  by-bool,
+  clash,
+  or-left,
+  on-first,
+  on-rest,
+  index-on,
+  Distinct,
+  distinct-index,
+}
 use Rattle.plans.proofs.RisingIds.{rising-none}
 use Rattle.plans.proofs.PlanPaths.{passes-finds}
-use Rattle.plans.proofs.PlanSets.{switched, due-parts, install-only, on-switches, switches-distinct}
+use Rattle.plans.proofs.PlanSets.{switch-due, switch-no-install, on-switches, switches-distinct}
 use Rattle.plans.proofs.PlanSets.{waits-on, waits-distinct, joining-member}
 use Rattle.plans.proofs.Middles.{Midway, midway-joins, midway-no-drop, Waiting, waiting-all, waiting-fewer, waiting-next}
 use Rattle.plans.proofs.WriteLaws.{added-none, added-joins, one-some}
@@ -199,8 +221,8 @@ going-begins {mode} {o} {n} {c = c} {left} {ids} {sizes} {many = many} {k} {m} g
 
     free : (v : ℕ) → switched o n v ≡ true → Free c v
     free v e =
-        free-at (due-below (g .good) v (sym (due-parts o n v) ∙ or-right (installs o n v) (or-left (removes o n v) e)))
-        (h .installed v ∙ by-bool (installs o n v) (λ i. clash (or-left (removes o n v) e) (install-only o n v i)) (λ i. i))
+        free-at (due-below (g .good) v (switch-due o n v e))
+        (h .installed v ∙ switch-no-install o n v e)
         (h .none-present v)
 
     ready : Ready o n c (switches o n)

@@ -77,18 +77,11 @@ use Rattle.plans.specs.Plan.{
   switches,
   some-round,
   PlanRounds,
+  switched,
 }
 use Rattle.plans.specs.Working.{roundChoice}
 use Rattle.plans.proofs.IdLists.{by-bool, clash, or-left, or-right}
-use Rattle.plans.proofs.PlanSets.{
-  switched,
-  install-only,
-  switch-only,
-  joining-passes,
-  joining-keeps,
-  waits-most,
-  over-passes,
-}
+use Rattle.plans.proofs.PlanSets.{install-only, switch-only, joining-passes, joining-keeps, waits-most, over-passes}
 use Rattle.plans.proofs.NodeLaws.{
   On,
   OnWay,

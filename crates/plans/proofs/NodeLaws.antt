@@ -40,11 +40,22 @@ use Rattle.routes.specs.Rules.{rule, value, change}
 use Rattle.routes.specs.Jumps.{position}
 use Rattle.routes.specs.declared.rule.Change.the-variants.{Kept, Install, Remove, Switch}
 use Rattle.routes.proofs.JumpLaws.{position-at, position-before, position-index}
-use Rattle.routes.proofs.RuleLaws.{Look, off, last, inner, look, value-off, nothing-off, Hop, rule-hop, onward-rule, rule-onward}
+use Rattle.routes.proofs.RuleLaws.{
+  Look,
+  off,
+  last,
+  inner,
+  look,
+  value-off,
+  nothing-off,
+  Hop,
+  rule-hop,
+  onward-rule,
+  rule-onward,
+}
 use Rattle.routes.proofs.RuleLaws.{Told, nothing, handed, onward, told, both-handed, good-swap}
-use Rattle.plans.specs.Plan.{isInstall, isRemove, isSwitch, installs, removes, keep, switches}
+use Rattle.plans.specs.Plan.{isInstall, isRemove, isSwitch, installs, removes, keep, switches, switched}
 use Rattle.plans.proofs.IdLists.{clash}
-use Rattle.plans.proofs.PlanSets.{switched}
 
 abbrev pub On : List ℕ → ℕ → Type 0
 On l x = position l x < length l

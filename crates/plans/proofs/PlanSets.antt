@@ -25,9 +25,12 @@
 --   on-switches         == the switches are the nodes whose change is a switch
 --   switches-distinct   == no switch is listed twice
 --   due-parts           == a node is due if it is an install, a switch or a remove
+--   install-due, switch-due, remove-due == each of these is due
 --   install-only, switch-only == an install is no switch and no remove, and a switch is no remove
+--   switch-no-install   == nor an install
 --   all-append, disjoint-append, filled-append, passes-append == two lists of sets joined
 --   all-some, disjoint-some, filled-some, length-some, passes-some == a round, if it has an id
+--   some-or-none        == there is no such round, or it has an id
 --   middle-switches     == the rounds of switches are together the switches
 --   plan-all            == the rounds are together the due nodes
 --   plan-below          == they hold ids only
@@ -79,6 +82,7 @@ use Rattle.plans.specs.Plan.{
   PlanRounds,
   idsOf,
   sizesOf,
+  switched,
 }
 use Rattle.plans.proofs.IdLists.{
   by-bool,
@@ -293,9 +297,6 @@ middle-count (a-round j m) = omega (arith, some-join j m .fewer, middle-count m)
 
 -- ---- installs, switches and removes
 
-abbrev pub switched : List ℕ → List ℕ → State
-switched o n v = isSwitch (change (rule o v) (rule n v))
-
 switch-some : (p q : Option ℕ) → isSwitch (change p q) ≡ true → (w : ℕ) × (q ≡ some w)
 switch-some none none e = clash e refl
 switch-some none (some b) e = clash e refl
@@ -331,6 +332,15 @@ due-parts o n v = go (rule o v) (rule n v)
     go (some a) none = refl
     go (some a) (some b) = same (eqb a b)
 
+pub install-due : (o n : List ℕ) (v : ℕ) → installs o n v ≡ true → due o n v ≡ true
+install-due o n v e = sym (due-parts o n v) ∙ or-left (switched o n v || removes o n v) e
+
+pub switch-due : (o n : List ℕ) (v : ℕ) → switched o n v ≡ true → due o n v ≡ true
+switch-due o n v e = sym (due-parts o n v) ∙ or-right (installs o n v) (or-left (removes o n v) e)
+
+pub remove-due : (o n : List ℕ) (v : ℕ) → removes o n v ≡ true → due o n v ≡ true
+remove-due o n v e = sym (due-parts o n v) ∙ or-right (installs o n v) (or-right (switched o n v) e)
+
 pub install-only : (o n : List ℕ) (v : ℕ) → installs o n v ≡ true → (switched o n v || removes o n v) ≡ false
 unfolding installs removes
 install-only o n v e = go (change (rule o v) (rule n v)) e
@@ -350,6 +360,10 @@ switch-only o n v e = go (change (rule o v) (rule n v)) e
     go Install e = refl
     go Remove e = sym e
     go Switch e = refl
+
+pub switch-no-install : (o n : List ℕ) (v : ℕ) → switched o n v ≡ true → installs o n v ≡ false
+switch-no-install o n v e =
+    by-bool (installs o n v) (λ i. clash (or-left (removes o n v) e) (install-only o n v i)) (λ i. i)
 
 -- ---- lists of sets joined
 
@@ -413,6 +427,14 @@ length-some R = go (rising R)
     go [] = omega arith
     go (w ∷ l) = omega arith
 
+pub some-or-none : (R : State) → (length (some-round R) ≡ 0) ⊎ ((v : ℕ) × (R v ≡ true))
+unfolding some-round
+some-or-none R = go (rising R) refl
+  where
+    go : (l : List ℕ) → rising R ≡ l → (length (some-of l R) ≡ 0) ⊎ ((v : ℕ) × (R v ≡ true))
+    go [] e = inl refl
+    go (w ∷ l) e = inr (getD (rising R) 0 0, rising-member R 0 (rw e (omega arith)) .1)
+
 pub passes-some :
     {mode : ℕ} {o n : List ℕ} {P : State} (R : State) → RoundPasses mode o n P R → PassesAll mode o n P (some-round R)
 unfolding some-round
@@ -433,10 +455,10 @@ lasts o n = some-round (removes o n)
 
 module _ {mode : ℕ} {o n : List ℕ} (g : Good o n) {Rs : List State} (p : PlanRounds mode o n Rs) where
   below-installs : Below (installs o n)
-  below-installs v e = due-below g v (sym (due-parts o n v) ∙ or-left (switched o n v || removes o n v) e)
+  below-installs v e = due-below g v (install-due o n v e)
 
   below-removes : Below (removes o n)
-  below-removes v e = due-below g v (sym (due-parts o n v) ∙ or-right (installs o n v) (or-right (switched o n v) e))
+  below-removes v e = due-below g v (remove-due o n v e)
 
   pub middle-switches : (v : ℕ) → all (p .middle) v ≡ switched o n v
   middle-switches v = middle-all (p .joined) (switches-distinct o (g .new)) v ∙ on-switches o n v

@@ -1,6 +1,7 @@
 -- Laws of the nodes sought, installs, removes and switches, by their codes. Assumes nothing.
 --
 --   code-read            == the code by reading an element of each table
+--   code-is, code-other  == whether a code x is w, by the code r that was read
 --   sought-begins, sought-skips, sought-takes == the nodes sought, one node more at a time
 --   backward-begins, backward-skips, backward-takes == the switches from the route's end backward, one node more at a time
 use Prim.Native.Nat.{ℕ, suc, _+_, _-_, _<_, _≤_}
@@ -17,24 +18,32 @@ use borrow.Author.Tests.{eq-eqb, ne-eqb}
 use Rattle.routes.specs.Rules.{changeOf}
 use Rattle.routes.proofs.RuleLaws.{getD-default}
 use Rattle.plans.specs.Plan.{keep}
-use Rattle.plans.specs.Working.{codeOf, codeAt, Sought, Backward}
+use Rattle.routes.specs.Walk.{State}
+use Rattle.plans.specs.Working.{codeOf, codeAt, coded, Sought, Backward}
 
 pub code-read :
     (a b : List ℕ) (v : ℕ) → v < length a → v < length b → codeOf (changeOf (getD a v 0) (getD b v 0)) ≡ codeAt a b v
 code-read a b v h k = rw (getD-default a v 512 0 h, getD-default b v 512 0 k)
 
-pub sought-begins : (w : ℕ) (a b : List ℕ) {c : List ℕ} → length c ≡ 512 → Sought w a b c c 0
-sought-begins w a b e = record { size = e; at = λ v h. absurd (omega arith); past = λ v h. refl }
+module _ {x r : ℕ} (w : ℕ) (e : r ≡ x) where
+  pub code-is : r ≡ w → eqb x w ≡ true
+  code-is q = eq-eqb x w (sym e ∙ q)
 
-module _ {w : ℕ} {a b c c′ : List ℕ} {i r : ℕ} (s : Sought w a b c c′ i) (h : i < 512) (e : r ≡ codeAt a b i) where
-  pub sought-skips : (r ≡ w → ⊥) → Sought w a b c c′ (i + 1)
+  pub code-other : (r ≡ w → ⊥) → eqb x w ≡ false
+  code-other n = ne-eqb x w (λ q. n (e ∙ q))
+
+pub sought-begins : (f : State) {c : List ℕ} → length c ≡ 512 → Sought f c c 0
+sought-begins f e = record { size = e; at = λ v h. absurd (omega arith); past = λ v h. refl }
+
+module _ {f : State} {c c′ : List ℕ} {i : ℕ} (s : Sought f c c′ i) (h : i < 512) where
+  pub sought-skips : f i ≡ false → Sought f c c′ (i + 1)
   sought-skips n = record { size = s .size; at = λ v l. go v l (ℕ-discrete v i); past = λ v l. s .past v (omega arith) }
     where
-      go : (v : ℕ) → v < i + 1 → Dec (v ≡ i) → getD c′ v 0 ≡ cond (eqb (codeAt a b v) w) 2 (getD c v 0)
-      go v l (yes q) = rw (q, ne-eqb (codeAt a b i) w (λ z. n (e ∙ z))) (s .past i (omega arith))
+      go : (v : ℕ) → v < i + 1 → Dec (v ≡ i) → getD c′ v 0 ≡ cond (f v) 2 (getD c v 0)
+      go v l (yes q) = rw (q, n) (s .past i (omega arith))
       go v l (no q) = s .at v (omega arith)
 
-  pub sought-takes : r ≡ w → Sought w a b c (set c′ i 2) (i + 1)
+  pub sought-takes : f i ≡ true → Sought f c (set c′ i 2) (i + 1)
   sought-takes n =
       record {
         size = length-set c′ i 2 ∙ s .size;
@@ -42,8 +51,8 @@ module _ {w : ℕ} {a b c c′ : List ℕ} {i r : ℕ} (s : Sought w a b c c′ 
         past = λ v l. getD-set-other c′ i v 2 0 (λ z. omega arith) ∙ s .past v (omega arith);
       }
     where
-      go : (v : ℕ) → v < i + 1 → Dec (v ≡ i) → getD (set c′ i 2) v 0 ≡ cond (eqb (codeAt a b v) w) 2 (getD c v 0)
-      go v l (yes q) = rw (q, eq-eqb (codeAt a b i) w (sym e ∙ n)) (getD-set-same c′ i 2 0 (omega (arith, s .size)))
+      go : (v : ℕ) → v < i + 1 → Dec (v ≡ i) → getD (set c′ i 2) v 0 ≡ cond (f v) 2 (getD c v 0)
+      go v l (yes q) = rw (q, n) (getD-set-same c′ i 2 0 (omega (arith, s .size)))
       go v l (no q) = getD-set-other c′ i v 2 0 q ∙ s .at v (omega arith)
 
 keep-append : (f : ℕ → Bool) (l m : List ℕ) → keep f (l ++ m) ≡ keep f l ++ keep f m
@@ -80,16 +89,13 @@ module _
     (w : p ≡ k)
     (q : r ≡ codeAt a b v)
   where
-    abbrev switch : ℕ → Bool
-    switch u = eqb (codeAt a b u) 3
-
     below : k < length n
     below = omega (arith, s .fewer)
 
     there : getD n k 0 ≡ v
     there = sym (e ∙ ap (λ (u : ℕ). getD n u 0) w)
 
-    before : take many left ≡ keep switch (reverse (drop (suc k) n))
+    before : take many left ≡ keep (coded a b 3) (reverse (drop (suc k) n))
     before = let z : suc k ≡ i = omega arith in rw z (s .taken)
 
     pub backward-skips : (r ≡ 3 → ⊥) → Backward a b n k left many
@@ -100,8 +106,8 @@ module _
           taken =
               before
               ∙ sym
-              (keep-back switch n k below
-              ∙ rw (there, ne-eqb (codeAt a b v) 3 (λ z. d (q ∙ z))) (append-nil (keep switch (reverse (drop (suc k) n)))));
+              (keep-back (coded a b 3) n k below
+              ∙ rw (there, code-other 3 q d) (append-nil (keep (coded a b 3) (reverse (drop (suc k) n)))));
         }
 
     pub backward-takes : length n ≤ 256 → r ≡ 3 → Backward a b n k (set left many v) (many + 1)
@@ -111,5 +117,5 @@ module _
           fewer = omega (arith, s .fewer);
           taken =
               rw (add-one many, take-suc-set left many v (omega (arith, s .fewer, s .places)), before)
-              (sym (keep-back switch n k below ∙ rw (there, eq-eqb (codeAt a b v) 3 (sym q ∙ d))));
+              (sym (keep-back (coded a b 3) n k below ∙ rw (there, code-is 3 q d)));
         }

@@ -1,12 +1,12 @@
 -- Laws of writing: entries behind those written, the nodes of the present round, and a whole round. Assumes nothing.
 --
 --   encode-append        == the bytes of two lists joined
---   overlaid-nothing     == with no entries at their front bytes are as they are
 --   overlaid-more        == one more entry put behind those at the front
 --   appended-none, appended-one, appended-joins == no entry, one, and more behind those written
 --   ids-append, sizes-append == the ids and the sizes of two lists of rounds joined
 --   added-none, added-joins == no rounds, and more rounds behind those written
 --   added-same           == a round is written by its nodes
+--   added-all            == what is written where nothing was before
 --   ids-some             == the ids of a round, if it has an id
 --   none-some, one-some  == a round that has no id is none, one that has some is one
 --   tally-more           == a tally grows by one with a number that is added
@@ -45,7 +45,8 @@ unfolding encode
 encode-append w [] ys = refl
 encode-append w (x ∷ xs) ys = rw (encode-append w xs ys) (sym (append-assoc (bytes w x) (encode w xs) (encode w ys)))
 
-pub overlaid-nothing : (z : List ℕ) → z ≡ overlaid [] z
+-- with no entries at their front bytes are as they are
+overlaid-nothing : (z : List ℕ) → z ≡ overlaid [] z
 unfolding overlaid encode
 overlaid-nothing z = refl
 
@@ -139,6 +140,17 @@ pub added-same :
     → Added (some-round S) ids sizes k m ids′ sizes′ k′ m′
 added-same {ids = ids} {sizes} {ids′} {sizes′} {k} {m} {k′} {m′} f =
     subst (λ (R : State). Added (some-round R) ids sizes k m ids′ sizes′ k′ m′) (fun-ext f)
+
+pub added-all :
+    {Rs : List State} {ids sizes ids′ sizes′ : List ℕ} {k m : ℕ}
+    → Added Rs ids sizes 0 0 ids′ sizes′ k m
+    → (k ≡ length Rs) × (m ≡ length (idsOf Rs)) × (ids′ ≡ overlaid (idsOf Rs) ids) × (sizes′ ≡ overlaid (sizesOf Rs) sizes)
+added-all {ids = ids} {sizes} w = (
+  omega (arith, w .rounds),
+  omega (arith, w .count),
+  w .entered .appended [] ids refl (overlaid-nothing ids),
+  w .sized .appended [] sizes refl (overlaid-nothing sizes),
+)
 
 pub ids-some : (R : State) → idsOf (some-round R) ≡ rising R
 unfolding some-round idsOf

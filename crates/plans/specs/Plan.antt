@@ -7,7 +7,7 @@
 --   RoundPasses mode o n P R == after the earlier rounds P the round R passes: no state of it drops or loops
 --   Joining mode o n P vs R R' W == going through the switches vs, the round so far R becomes R', and W wait
 --   Middle mode o n P vs Rs == Rs are the rounds of the switches vs, after the earlier rounds P
---   installs, removes    == all installs, all removes
+--   installs, removes, switched == all installs, all removes, all switches
 --   switches o n         == all switches, from the destination backward along the new route
 --   rising R             == the ids of R, rising
 --   some-round R         == the round R, if it has an id
@@ -84,13 +84,16 @@ installs o n v = isInstall (change (rule o v) (rule n v))
 unfoldable pub removes : List ℕ → List ℕ → State
 removes o n v = isRemove (change (rule o v) (rule n v))
 
+abbrev pub switched : List ℕ → List ℕ → State
+switched o n v = isSwitch (change (rule o v) (rule n v))
+
 unfoldable pub keep : (ℕ → Bool) → List ℕ → List ℕ
 keep f [] = []
 keep f (v ∷ vs) = cond (f v) (v ∷ keep f vs) (keep f vs)
 
 unfoldable pub switches : List ℕ → List ℕ → List ℕ
 unfolding keep
-switches o n = keep (λ v. isSwitch (change (rule o v) (rule n v))) (reverse n)
+switches o n = keep (switched o n) (reverse n)
 
 unfoldable pub risingBelow : ℕ → State → List ℕ
 risingBelow zero R = []

@@ -24,7 +24,8 @@
 --
 --   codeOf k           == what happens to a rule, as a number: 1 install, 2 remove, 3 switch, 0 none of these
 --   codeAt a b v       == the same of the node v
---   Sought w a b c c' i == the nodes below i with the code w are of the present round in c'; all others are as in c
+--   coded a b w        == the nodes with the code w
+--   Sought f c c' i    == the nodes of f below i are of the present round in c'; all others are as in c
 --   Backward a b n i left many == the first `many` are the switches of n from index i on, backward
 --
 --   Setting o n a b s  == o and n are a good pair, a and b their tables of next values, s is the source
@@ -171,15 +172,18 @@ codeOf Switch = 3
 abbrev pub codeAt : List ℕ → List ℕ → ℕ → ℕ
 codeAt a b v = codeOf (changeOf (getD a v 512) (getD b v 512))
 
-pub record Sought (w : ℕ) (a b c c' : List ℕ) (i : ℕ) : Type 0 where
+abbrev pub coded : List ℕ → List ℕ → ℕ → State
+coded a b w v = eqb (codeAt a b v) w
+
+pub record Sought (f : State) (c c' : List ℕ) (i : ℕ) : Type 0 where
   pub size : length c' ≡ 512
-  pub at : (v : ℕ) → v < i → getD c' v 0 ≡ cond (eqb (codeAt a b v) w) 2 (getD c v 0)
+  pub at : (v : ℕ) → v < i → getD c' v 0 ≡ cond (f v) 2 (getD c v 0)
   pub past : (v : ℕ) → i ≤ v → getD c' v 0 ≡ getD c v 0
 
 pub record Backward (a b n : List ℕ) (i : ℕ) (left : List ℕ) (many : ℕ) : Type 0 where
   pub places : length left ≡ 256
   pub fewer : many + i ≤ length n
-  pub taken : take many left ≡ keep (λ v. eqb (codeAt a b v) 3) (reverse (drop i n))
+  pub taken : take many left ≡ keep (coded a b 3) (reverse (drop i n))
 
 -- ---- writing
 

@@ -1,18 +1,16 @@
 // One plan per change and mode.
-//
-// A choice list holds for each node what its round is: 1 for a round before the present one, 2 for the present round, 0 for
-// none yet. It is what the searches of `graph` take as the nodes' choice.
+use crate::Done;
+use crate::code_at;
+use crate::fit;
+use crate::seek;
+use crate::write_round;
 use graph::cyclic;
 use graph::leads;
 use graph::reach;
 use house::Refusal;
 use house::entry;
-use house::put_entry;
 use house::wide;
 use routes::pair::Judged;
-use routes::pair::judge;
-use routes::rule::Change;
-use routes::rule::kind;
 use routes::rule::next_values;
 ghost use mathlib.Core.Path.{_≡_};
 ghost use Prim.Native.Nat.{_-_, _<_, _≤_};
@@ -21,8 +19,8 @@ ghost use Rattle.house.specs.Numbers.{entries};
 ghost use Rattle.graph.specs.Graph.{table};
 ghost use Rattle.plans.specs.Replies.{Plans};
 ghost use Rattle.plans.specs.Working.{Fits, Seen, Free, Tried, Lined, Settled, Passed, Fresh, Any, Closing, Merged};
-ghost use Rattle.plans.specs.Working.{codeOf, codeAt, Sought, Backward, Room, Entered, Entering, Wrote, Ahead, Middled, Written};
-ghost use Rattle.routes.specs.Rules.{changeOf, Values};
+ghost use Rattle.plans.specs.Working.{Backward, Room, Ahead, Middled, Written};
+ghost use Rattle.routes.specs.Rules.{Values};
 ghost use Rattle.routes.specs.Routes.{GoodRoute, Good};
 
 // What the planner answers.
@@ -30,96 +28,6 @@ pub enum Planned {
     // rounds, ids written
     Given(usize, usize),
     Refused(Refusal),
-}
-
-// What is written so far.
-struct Done {
-    rounds: usize,
-    count: usize,
-}
-
-// Writes the node v behind the ids written and places it, if it is of the present round. Returns the number of ids.
-fn enter(choice: &mut [u8; 512], ids: &mut [u8], count: usize, v: usize) -> usize
-    requires { ⌜ (length (now choice) ≡ 512) × (v < 512) ⌝ }
-    requires { ⌜ (1 < getD (now choice) v 0 → count < 512) ⌝ }
-    ensures { λ r. ⌜ Entered (now (choice .entry)) (now (ids .entry)) count v (now (choice .exit)) (now (ids .exit)) r ⌝ }
-{
-    if choice[v] <= 1 {
-        return count;
-    }
-    choice[v] = 1;
-    put_entry(ids, count, v as u16);
-    count + 1
-}
-
-// Writes the nodes of the present round, rising, behind the ids written, and places them. Returns the number of ids.
-fn enter_all(choice: &mut [u8; 512], ids: &mut [u8], count: usize) -> usize
-    requires { ⌜ Entering (now choice) (now ids) count (now choice) (now ids) count 0 ⌝ }
-    ensures { λ r. ⌜ Entering (now (choice .entry)) (now (ids .entry)) count (now (choice .exit)) (now (ids .exit)) r 512 ⌝ }
-{
-    let mut n = count;
-    let mut v = 0;
-    while v < 512 {
-        n = enter(choice, ids, n, v);
-        v += 1;
-    }
-    n
-}
-
-// Writes the present round behind what is written, and places it; a round of no node is none.
-fn write_round(choice: &mut [u8; 512], ids: &mut [u8], sizes: &mut [u8], done: Done) -> Done
-    requires { ⌜ Room (now choice) (now ids) (now sizes) (done .rounds) (done .count) ⌝ }
-    ensures { λ r. ⌜ Wrote (now (choice .entry)) (now (ids .entry)) (now (sizes .entry)) (done .rounds) (done .count) (now (choice .exit)) (now (ids .exit)) (now (sizes .exit)) (r .rounds) (r .count) ⌝ }
-{
-    let k = done.rounds;
-    let m = done.count;
-    let n = enter_all(choice, ids, m);
-    if n == m {
-        return Done {
-            rounds: k,
-            count: n,
-        };
-    }
-    put_entry(sizes, k, (n - m) as u16);
-    Done {
-        rounds: k + 1,
-        count: n,
-    }
-}
-
-// What happens to the rule of a node whose next value goes from x to y: 1 install, 2 remove, 3 switch, 0 none of these.
-fn code(x: u16, y: u16) -> u8
-    ensures { λ r. ⌜ r ≡ codeOf (changeOf x y) ⌝ }
-{
-    match kind(x, y) {
-        Change::Kept => 0,
-        Change::Install => 1,
-        Change::Remove => 2,
-        Change::Switch => 3,
-    }
-}
-
-// The code of the node v.
-fn code_at(old: &[u16; 512], new: &[u16; 512], v: usize) -> u8
-    requires { ⌜ v < 512 ⌝ }
-    ensures { λ r. ⌜ r ≡ codeAt (now (old .entry)) (now (new .entry)) v ⌝ }
-{
-    let a: &[u16] = old;
-    let b: &[u16] = new;
-    code(a[v], b[v])
-}
-
-// Puts all nodes with the code `sought` into the present round.
-fn seek(old: &[u16; 512], new: &[u16; 512], sought: u8, choice: &mut [u8; 512])
-    requires { ⌜ length (now choice) ≡ 512 ⌝ }
-    ensures { λ r. ⌜ Sought sought (now (old .entry)) (now (new .entry)) (now (choice .entry)) (now (choice .exit)) 512 ⌝ }
-{
-    for v in 0..512 {
-        if code_at(old, new, v) != sought {
-            continue;
-        }
-        choice[v] = 2;
-    }
 }
 
 // The index that is as far from the end of n entries as j is from their beginning.
@@ -374,21 +282,12 @@ fn write_plan(old: &[u8], new: &[u8], mode: u16, ids: &mut [u8], sizes: &mut [u8
 
 // Plans the change from the old route to the new one, given as bytes, in this mode (0 strong, 1 relaxed): writes the ids of the
 // rounds, all rounds joined, and their sizes, and answers how many of both; or the refusal that is given, and then nothing is
-// written. 1 comes first, then those of the pair in `judge`'s order, then 8: the tests come in the order of their numbers.
+// written.
 pub fn plan(old: &[u8], new: &[u8], mode: u16, ids: &mut [u8], sizes: &mut [u8]) -> Planned
     ensures { λ r. ⌜ Plans (now (old .entry)) (now (new .entry)) mode (now (ids .entry)) (now (sizes .entry)) r (now (ids .exit)) (now (sizes .exit)) ⌝ }
 {
-    if ids.len() < 1024 {
-        return Planned::Refused(Refusal::Unfit);
-    }
-    if sizes.len() < 1024 {
-        return Planned::Refused(Refusal::Unfit);
-    }
-    if let Judged::Faulty(r) = judge(old, new) {
+    if let Judged::Faulty(r) = fit(old, new, mode, ids, sizes) {
         return Planned::Refused(r);
-    }
-    if 1 < mode {
-        return Planned::Refused(Refusal::ModeOver);
     }
     let done = write_plan(old, new, mode, ids, sizes);
     Planned::Given(done.rounds, done.count)

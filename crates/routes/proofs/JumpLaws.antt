@@ -15,6 +15,7 @@
 --   meets            == a node that has a jump has a next meeting node
 --   jump-met         == the jump is the difference of the two positions
 --   jump-some        == a node that has a jump has one in the order of either route (by good-swap and has-jump-swap)
+--   difference       == a fact of the difference of two numbers, by which is greater
 --   difference-small == the difference of two positions below 256 fits 32 bits
 --   jump-range       == a jump is from -253 to 255 and not 0
 --   letter-sign      == the letter by the test of the sign
@@ -255,8 +256,7 @@ jump-some {p} {q} g v e =
     let (w, m) = meets g (has-jump p q v e) in
     (pos (position p w) -ℤ pos (position p v), jump-met m)
 
--- a fact of the difference of two numbers, by which is greater
-difference :
+pub difference :
     (P : ℤ → Type 0) (a b : ℕ)
     → (a < b → P (negsuc (b - suc a)))
     → (b ≤ a → P (pos (a - b)))

@@ -15,11 +15,6 @@ pub struct Lists {
 
 type Rounds = Vec<Vec<u16>>;
 
-/// The due nodes of a pair of routes.
-pub fn due(old: &[u16], new: &[u16]) -> Vec<u16> {
-    (0..512).filter(|id| model::is_due(old, new, *id)).collect()
-}
-
 /// A change, sound in one case of two, else damaged.
 pub fn change(random: &mut Random) -> Lists {
     let mode = random.below(2) as u16;
@@ -62,22 +57,9 @@ pub fn content(random: &mut Random) -> Content {
 }
 
 /// What a plan is asked for: two routes and a mode, sound in two cases of three, else damaged.
-pub fn wish(random: &mut Random) -> (Vec<u16>, Vec<u16>, u16) {
+pub fn wish(random: &mut Random, pair: fn(&mut Random) -> (Vec<u16>, Vec<u16>)) -> (Vec<u16>, Vec<u16>, u16) {
     let mut mode = random.below(2) as u16;
-    let (mut old, mut new) = match random.below(40) {
-        0 => {
-            let (old, new, _) = winding(random);
-            (old, new)
-        }
-        1 => {
-            let (old, new, _) = riffled(random);
-            (old, new)
-        }
-        _ => {
-            let most = any_size(random);
-            random.pair_of(most)
-        }
-    };
+    let (mut old, mut new) = pair(random);
     if random.chance(3) {
         for route in [&mut old, &mut new] {
             while random.chance(2) {
@@ -89,6 +71,62 @@ pub fn wish(random: &mut Random) -> (Vec<u16>, Vec<u16>, u16) {
         }
     }
     (old, new, mode)
+}
+
+/// A good pair of routes of any kind.
+pub fn pair(random: &mut Random) -> (Vec<u16>, Vec<u16>) {
+    let (old, new, _) = match random.below(40) {
+        0 => winding(random),
+        1 => riffled(random),
+        _ => {
+            let most = any_size(random);
+            return random.pair_of(most);
+        }
+    };
+    (old, new)
+}
+
+/// A good pair of routes, of any kind or one in which few switches go backward in both orders.
+pub fn pair_for_quick(random: &mut Random) -> (Vec<u16>, Vec<u16>) {
+    if random.chance(2) { pair(random) } else { gentle(random) }
+}
+
+/// A good pair of routes in which no switch goes backward in both orders, or, in one case of three, few do. The nodes that are on
+/// both routes are cut into pieces, and each piece is riffled: on one route it has two rows one after the other, on the other one
+/// these two are mixed, each in its order. In one case of three some neighbours are then turned round.
+fn gentle(random: &mut Random) -> (Vec<u16>, Vec<u16>) {
+    let most = any_size(random);
+    let ids = random.ids();
+    let (ends, ids) = ids.split_at(2);
+    let (both, ids) = ids.split_at(random.below(most + 1) as usize);
+    let mut mixed = vec![];
+    let mut left = both;
+    while !left.is_empty() {
+        let (piece, rest) = left.split_at(1 + random.below(left.len() as u64) as usize);
+        let (mut a, mut b) = piece.split_at(random.below(piece.len() as u64 + 1) as usize);
+        while !a.is_empty() || !b.is_empty() {
+            let row = if b.is_empty() || (!a.is_empty() && random.chance(2)) { &mut a } else { &mut b };
+            mixed.push(row[0]);
+            *row = &row[1..];
+        }
+        left = rest;
+    }
+    while random.chance(3) && mixed.len() > 2 {
+        let size = 3 + random.below(2).min(mixed.len() as u64 - 3) as usize;
+        let from = random.below((mixed.len() - size) as u64 + 1) as usize;
+        mixed[from..from + size].reverse();
+    }
+    let (own_a, own_b) = ids.split_at(random.below(most + 1 - both.len() as u64) as usize);
+    let own_b = &own_b[..random.below(most + 1 - both.len() as u64) as usize];
+    let pair = [(both, own_a), (&mixed, own_b)].map(|(shared, own)| {
+        let mut inner = shared.to_vec();
+        for id in own {
+            inner.insert(random.below(inner.len() as u64 + 1) as usize, *id);
+        }
+        [&ends[..1], &inner, &ends[1..]].concat()
+    });
+    let [old, new] = pair;
+    if random.chance(2) { (old, new) } else { (new, old) }
 }
 
 /// So many inner nodes at most.
@@ -151,7 +189,7 @@ fn tidied(mut rounds: Rounds) -> Rounds {
 
 /// A schedule that holds each due node once: a plan, one that is changed a little, or any partition.
 fn rounds(random: &mut Random, old: &[u16], new: &[u16], mode: u16) -> Rounds {
-    let due = due(old, new);
+    let due = model::due(old, new);
     tidied(match random.below(12) {
         0..=7 => {
             let mut rounds = if due.len() > 80 { one_by_one(old, new, &due) } else { planned(random, old, new, mode) };

@@ -6,10 +6,10 @@ use crate::random::Random;
 
 /// A file, sound in two cases of three.
 pub fn file(random: &mut Random) -> Vec<u8> {
-    let mut file = match random.below(60) {
-        0 => noise(random),
-        1 => loose_records(random),
-        2 => largest(random),
+    let mut file = match random.below(240) {
+        0..=3 => noise(random),
+        4..=7 => loose_records(random),
+        8 => largest(random),
         _ => planfile::write(&content(random)),
     };
     if random.chance(3) {
@@ -25,7 +25,7 @@ pub fn file(random: &mut Random) -> Vec<u8> {
 fn content(random: &mut Random) -> Content {
     let content = changes::content(random);
     let large = content.old.len() + content.new.len() > 100;
-    if large && !random.chance(4) { changes::content(random) } else { content }
+    if large && !random.chance(8) { changes::content(random) } else { content }
 }
 
 /// Bytes of any kind, also none.

@@ -14,8 +14,10 @@ mod guarded;
 mod model;
 mod planfile;
 mod programs;
+mod quick;
 mod random;
 mod seen;
+mod workers;
 mod written;
 
 use model::{refusal, Refusal, Walk};
@@ -175,7 +177,7 @@ fn main() {
     match words.get(1).map(String::as_str) {
         Some("answer") => answer(),
         Some("ask") if words.len() == 5 => ask(&words[2], number(3), number(4)),
-        Some("calls") if words.len() == 4 => calls::compare(number(2), number(3)),
+        Some("calls") if words.len() == 4 => calls::compare_and_print(number(2), number(3)),
         Some("programs") if words.len() == 6 => {
             let paths = programs::Paths { checker: words[2].clone(), planner: words[3].clone() };
             programs::compare_and_print(&paths, number(4), number(5))

@@ -56,29 +56,43 @@ pub fn is_due(old: &[u16], new: &[u16], node: u16) -> bool {
     rule(old, node) != rule(new, node)
 }
 
-/// The old-order and the new-order jump of a node.
-pub fn jumps(old: &[u16], new: &[u16], node: u16) -> Result<(i64, i64), Refusal> {
-    judge(old, new)?;
-    let on_both = |id: &u16| old.contains(id) && new.contains(id);
-    if !on_both(&node) || old.last() == Some(&node) {
-        return Err(refusal(18, 0, node as u64));
-    }
+/// The old-order and the new-order jump of a node that is on both of two good routes, other than the destination.
+fn jumps_of(old: &[u16], new: &[u16], node: u16) -> (i64, i64) {
     let position = |route: &[u16], id: u16| route.iter().position(|x| *x == id).unwrap() as i64;
     let next_meeting = |route: &[u16]| {
         let from = position(route, node) as usize + 1;
-        *route[from..].iter().find(|id| on_both(id)).unwrap()
+        *route[from..].iter().find(|id| old.contains(id) && new.contains(id)).unwrap()
     };
-    Ok((
-        position(old, next_meeting(new)) - position(old, node),
-        position(new, next_meeting(old)) - position(new, node),
-    ))
+    (position(old, next_meeting(new)) - position(old, node), position(new, next_meeting(old)) - position(new, node))
+}
+
+/// The old-order and the new-order jump of a node, with the refusals: 4 to 7 and 18.
+pub fn jumps(old: &[u16], new: &[u16], node: u16) -> Result<(i64, i64), Refusal> {
+    judge(old, new)?;
+    if !old.contains(&node) || !new.contains(&node) || old.last() == Some(&node) {
+        return Err(refusal(18, 0, node as u64));
+    }
+    Ok(jumps_of(old, new, node))
 }
 
 /// The rules of all ids: the old and the new one of each.
 type Rules = Vec<[Option<u16>; 2]>;
 
+/// What `rule` says of all ids. In a route that has an id twice, its first place counts.
 fn rules(old: &[u16], new: &[u16]) -> Rules {
-    (0..512).map(|id| [rule(old, id), rule(new, id)]).collect()
+    let mut rules = vec![[None; 2]; 512];
+    for (k, route) in [old, new].into_iter().enumerate() {
+        for pair in route.windows(2).rev().filter(|pair| pair[0] < 512) {
+            rules[pair[0] as usize][k] = Some(pair[1]);
+        }
+    }
+    rules
+}
+
+/// The due nodes of a pair of routes, rising.
+pub fn due(old: &[u16], new: &[u16]) -> Vec<u16> {
+    let rules = rules(old, new);
+    (0..512).filter(|id| rules[*id as usize][0] != rules[*id as usize][1]).collect()
 }
 
 #[derive(Clone, Copy, Debug, PartialEq, Eq)]
@@ -146,7 +160,7 @@ pub fn judge_change(old: &[u16], new: &[u16], mode: u16, ids: &[u16], sizes: &[u
             return Err(refusal(11, round_of[i], i as u64));
         }
     }
-    let due: Vec<u16> = (0..512).filter(|id| is_due(old, new, *id)).collect();
+    let due = due(old, new);
     for (i, id) in ids.iter().enumerate() {
         if !due.contains(id) {
             return Err(refusal(12, round_of[i], i as u64));
@@ -191,6 +205,12 @@ pub fn applying_to_plan(old: &[u16], new: &[u16], mode: u16) -> Vec<u64> {
     [applying_to_pair(old, new), numbers([(8, mode > 1)])].concat()
 }
 
+/// Which of the refusals 4 to 8 and 19 apply to a quick plan, each taken by itself. Jumps are known only of good routes.
+pub fn applying_to_quick(old: &[u16], new: &[u16], mode: u16) -> Vec<u64> {
+    let backward = applying_to_pair(old, new).is_empty() && lowest_backward(old, new).is_some();
+    [applying_to_plan(old, new, mode), numbers([(19, backward)])].concat()
+}
+
 /// Which of the refusals 4 to 14 apply to a change, each taken by itself. Ids beyond the sum of the sizes are in no round.
 fn applying_to_change(old: &[u16], new: &[u16], mode: u16, ids: &[u16], sizes: &[u16]) -> Vec<u64> {
     let round_of: Vec<usize> =
@@ -198,7 +218,7 @@ fn applying_to_change(old: &[u16], new: &[u16], mode: u16, ids: &[u16], sizes: &
     let mut first_round = HashMap::new();
     let again = ids.iter().zip(&round_of).any(|(id, t)| *first_round.entry(id).or_insert(t) != t);
     let total: u64 = sizes.iter().map(|size| *size as u64).sum();
-    let due: HashSet<u16> = (0..512).filter(|id| is_due(old, new, *id)).collect();
+    let due: HashSet<u16> = due(old, new).into_iter().collect();
     let of_schedule = numbers([
         (8, mode > 1),
         (9, total != ids.len() as u64),
@@ -283,9 +303,9 @@ impl Change {
         })
     }
 
-    /// Whether some state that the choices allow shows the fault, by a search that goes deep, with colours: there is a path to
-    /// a node without a rule, or back to a node on the way.
-    fn possible_by_search(&self, choices: &[Choice], fault: Fault) -> bool {
+    /// Whether some state that the choices allow shows one of the faults, by a search that goes deep, with colours: there is a
+    /// path from the source to a node without a rule, or back to a node on the way.
+    fn possible_by_search(&self, choices: &[Choice], faults: &[Fault]) -> bool {
         let steps = |id: u16| {
             let [old, new] = self.rules[id as usize];
             match choices[id as usize] {
@@ -294,15 +314,15 @@ impl Change {
                 Choice::Either => [old, new],
             }
         };
-        let source = [self.source];
-        let starts: &[u16] = if fault == Fault::Loop && self.mode == 0 { &self.nodes } else { &source };
+        let (drops, loops) = (faults.contains(&Fault::Drop), faults.contains(&Fault::Loop));
+        let anywhere: &[u16] = if loops && self.mode == 0 { &self.nodes } else { &[] };
         // 0 not met, 1 on the way, 2 left for good
         let mut colour = [0u8; 512];
-        let mut way = vec![];
-        for start in starts {
+        let mut way = Vec::with_capacity(512);
+        for (k, start) in std::iter::once(&self.source).chain(anywhere).enumerate() {
             if colour[*start as usize] == 0 {
                 colour[*start as usize] = 1;
-                way.push((*start, 0));
+                way.push((*start, 0u8));
             }
             while let Some((at, tried)) = way.last_mut() {
                 if *tried == 2 {
@@ -310,17 +330,17 @@ impl Change {
                     way.pop();
                     continue;
                 }
-                let step = steps(*at)[*tried];
+                let step = steps(*at)[*tried as usize];
                 *tried += 1;
-                match (step, fault) {
-                    (None, Fault::Drop) if *at != self.end => return true,
-                    (None, _) => {}
-                    (Some(next), _) => match (colour[next as usize], fault) {
-                        (0, _) => {
+                match step {
+                    None if k == 0 && drops && *at != self.end => return true,
+                    None => {}
+                    Some(next) => match colour[next as usize] {
+                        0 => {
                             colour[next as usize] = 1;
                             way.push((next, 0));
                         }
-                        (1, Fault::Loop) => return true,
+                        1 if loops => return true,
                         _ => {}
                     },
                 }
@@ -329,11 +349,12 @@ impl Change {
         false
     }
 
-    fn possible(&self, choices: &[Choice], fault: Fault) -> bool {
-        let found = self.possible_by_search(choices, fault);
-        let free: Vec<u16> = (0..512).filter(|id| choices[*id as usize] == Choice::Either).collect();
-        if free.len() <= self.force {
-            assert_eq!(found, self.first_by_force(choices, &free, fault).is_some(), "the search finds what all states show");
+    fn possible(&self, choices: &[Choice], faults: &[Fault]) -> bool {
+        let found = self.possible_by_search(choices, faults);
+        if choices.iter().filter(|choice| **choice == Choice::Either).count() <= self.force {
+            let free: Vec<u16> = (0..512).filter(|id| choices[*id as usize] == Choice::Either).collect();
+            let shown = faults.iter().any(|fault| self.first_by_force(choices, &free, *fault).is_some());
+            assert_eq!(found, shown, "the search finds what all states show");
         }
         found
     }
@@ -348,7 +369,7 @@ impl Change {
         let mut subset = vec![];
         for id in round {
             choices[*id as usize] = Choice::Old;
-            if !self.possible(&choices, fault) {
+            if !self.possible(&choices, &[fault]) {
                 choices[*id as usize] = Choice::New;
                 subset.push(*id);
             }
@@ -366,10 +387,10 @@ impl Change {
             for id in round {
                 choices[*id as usize] = Choice::Either;
             }
-            let faults: Vec<Fault> =
-                [Fault::Drop, Fault::Loop].into_iter().filter(|fault| self.possible(&choices, *fault)).collect();
-            if let Some(fault) = faults.first() {
-                let subset = self.named(&choices, round, *fault);
+            if self.possible(&choices, &[Fault::Drop, Fault::Loop]) {
+                let faults: Vec<Fault> =
+                    [Fault::Drop, Fault::Loop].into_iter().filter(|fault| self.possible(&choices, &[*fault])).collect();
+                let subset = self.named(&choices, round, faults[0]);
                 return Some((t, faults, subset));
             }
             for id in round {
@@ -417,9 +438,10 @@ pub fn plan(old: &[u16], new: &[u16], mode: u16) -> Result<Vec<Vec<u16>>, Refusa
     if mode > 1 {
         return Err(refusal(8, 0, 0));
     }
-    let change = Change::new(old, new, mode, 2);
+    // a long plan has thousands of small rounds that are tried and fail
+    let change = Change::new(old, new, mode, if new.len() <= 100 { 2 } else { 0 });
     let kind = |id: u16| (change.rules[id as usize][0].is_some(), change.rules[id as usize][1].is_some());
-    let due: Vec<u16> = (0..512).filter(|id| is_due(old, new, *id)).collect();
+    let due = due(old, new);
     let installs: Vec<u16> = due.iter().copied().filter(|id| kind(*id) == (false, true)).collect();
     let removes: Vec<u16> = due.iter().copied().filter(|id| kind(*id) == (true, false)).collect();
     let mut left: Vec<u16> = new.iter().rev().copied().filter(|id| due.contains(id) && kind(*id) == (true, true)).collect();
@@ -433,7 +455,7 @@ pub fn plan(old: &[u16], new: &[u16], mode: u16) -> Result<Vec<Vec<u16>>, Refusa
         let mut waiting = vec![];
         for id in left {
             choices[id as usize] = Choice::Either;
-            if change.possible(&choices, Fault::Drop) || change.possible(&choices, Fault::Loop) {
+            if change.possible(&choices, &[Fault::Drop, Fault::Loop]) {
                 choices[id as usize] = Choice::Old;
                 waiting.push(id);
             } else {
@@ -451,6 +473,61 @@ pub fn plan(old: &[u16], new: &[u16], mode: u16) -> Result<Vec<Vec<u16>>, Refusa
     rounds.push(removes);
     rounds.retain(|round| !round.is_empty());
     Ok(rounds)
+}
+
+/// The switches of two good routes: the nodes that go from one rule to another, rising.
+fn switches(old: &[u16], new: &[u16]) -> Vec<u16> {
+    due(old, new).into_iter().filter(|id| rule(old, *id).is_some() && rule(new, *id).is_some()).collect()
+}
+
+/// The lowest of the switches that go backward in both orders.
+fn lowest_backward(old: &[u16], new: &[u16]) -> Option<u16> {
+    switches(old, new).into_iter().find(|id| {
+        let (old_order, new_order) = jumps_of(old, new, *id);
+        old_order < 0 && new_order < 0
+    })
+}
+
+/// The quick plan: its rounds, each rising.
+pub fn quick(old: &[u16], new: &[u16], mode: u16) -> Result<Vec<Vec<u16>>, Refusal> {
+    judge(old, new)?;
+    if mode > 1 {
+        return Err(refusal(8, 0, 0));
+    }
+    if let Some(id) = lowest_backward(old, new) {
+        return Err(refusal(19, 0, id as u64));
+    }
+    let due = due(old, new);
+    let installs: Vec<u16> = due.iter().copied().filter(|id| rule(old, *id).is_none()).collect();
+    let removes: Vec<u16> = due.iter().copied().filter(|id| rule(new, *id).is_none()).collect();
+    let (forward, rest) = switches(old, new).into_iter().partition(|id| jumps_of(old, new, *id).0 > 0);
+    let mut rounds = vec![installs, forward, rest, removes];
+    rounds.retain(|round| !round.is_empty());
+    Ok(rounds)
+}
+
+/// Whether some schedule passes that has all installs in its first round, all removes in its last, and the switches in at most
+/// two rounds between. It goes through all of them, and through all states of each.
+pub fn two_are_enough(old: &[u16], new: &[u16], mode: u16) -> bool {
+    let due = due(old, new);
+    let switches = switches(old, new);
+    let of = |pick: &dyn Fn(&u16) -> bool| due.iter().copied().filter(|id| pick(id)).collect::<Vec<u16>>();
+    let (installs, removes) = (of(&|id| rule(old, *id).is_none()), of(&|id| rule(new, *id).is_none()));
+    let change = Change::new(old, new, mode, due.len());
+    (0..1u64 << switches.len()).any(|split| {
+        let between = |second: bool| {
+            let chosen = switches.iter().enumerate().filter(|(k, _)| (split >> k & 1 == 1) == second);
+            chosen.map(|(_, id)| *id).collect::<Vec<u16>>()
+        };
+        let mut rounds = vec![installs.clone(), between(false), between(true), removes.clone()];
+        rounds.retain(|round| !round.is_empty());
+        change.first_bad(&rounds.concat(), &sizes(&rounds)).is_none()
+    })
+}
+
+/// The sizes of the rounds of a schedule.
+pub fn sizes(rounds: &[Vec<u16>]) -> Vec<u16> {
+    rounds.iter().map(|round| round.len() as u16).collect()
 }
 
 #[cfg(test)]

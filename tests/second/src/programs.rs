@@ -5,9 +5,9 @@ use crate::model::{self, Refusal};
 use crate::planfile::{self, Content, Records, LIMIT};
 use crate::random::Random;
 use crate::seen::Seen;
+use crate::workers::two_at_a_time;
 use std::io::{ErrorKind, Read, Write};
 use std::process::{Command, Stdio};
-use std::sync::atomic::{AtomicU64, Ordering};
 
 #[derive(Clone, Copy, Debug, PartialEq, Eq)]
 pub enum Program {
@@ -182,13 +182,15 @@ fn difference(run: &dyn Run, program: Program, file: &[u8], expected: &Expected)
 /// the planner writes it once more.
 fn compare_one(run: &dyn Run, random: &mut Random, came: &mut Came) -> Result<(), String> {
     let file = files::file(random);
+    // the states of rounds of large changes are gone through in the comparison of the calls
+    let force = if file.len() < 400 { 4 } else { 1 };
     for program in [Checker, Planner] {
-        let expected = program.expected(&file, 4);
+        let expected = program.expected(&file, force);
         difference(run, program, &file, &expected)?;
         came.count(program, &expected);
         if program == Planner && expected.given == 0 && random.chance(10) {
             let plan = &expected.written;
-            let checked = Checker.expected(plan, 4);
+            let checked = Checker.expected(plan, force);
             assert_eq!(checked.given, 0, "the second program's own plan passes");
             difference(run, Checker, plan, &checked)?;
             difference(run, Planner, plan, &expected)?;
@@ -198,31 +200,17 @@ fn compare_one(run: &dyn Run, random: &mut Random, came: &mut Came) -> Result<()
     Ok(())
 }
 
-/// Compares the programs with the second program on so many random files, two at a time. File i of a seed is always the same.
+/// Compares the programs with the second program on so many random files.
 pub fn compare(run: &dyn Run, count: u64, seed: u64) -> Result<Came, String> {
-    let next = AtomicU64::new(0);
-    let work = || {
+    let [mut all, other] = two_at_a_time(count, seed, |row| {
         let mut came = Came::default();
-        loop {
-            let i = next.fetch_add(1, Ordering::Relaxed);
-            if i >= count {
-                return Ok(came);
-            }
-            let mut random = Random(Random(seed).next() ^ Random(i).next());
-            if let Err(text) = compare_one(run, &mut random, &mut came) {
-                next.store(count, Ordering::Relaxed);
-                return Err(format!("file {i} of seed {seed}: {text}"));
-            }
+        for (i, mut random) in row {
+            compare_one(run, &mut random, &mut came).map_err(|text| format!("file {i} of seed {seed}: {text}"))?;
         }
-    };
-    std::thread::scope(|scope| {
-        let workers = [scope.spawn(work), scope.spawn(work)];
-        let mut all = Came::default();
-        for worker in workers {
-            all.join(worker.join().expect("a worker ends")?);
-        }
-        Ok(all)
-    })
+        Ok(came)
+    })?;
+    all.join(other);
+    Ok(all)
 }
 
 /// The comparison, and what came up in it.

@@ -27,8 +27,8 @@ impl Seen {
         }
     }
 
-    /// Whether each of the refusals was given, also where each later one applied, and no other refusal was given. Whether a
-    /// round is bad is known only where none of 4 to 13 applies.
+    /// Whether each of the refusals was given, also where each later one that can be known applied, and no other refusal was
+    /// given. Whether a round is bad is known only where none of 4 to 13 applies, a jump only where none of 4 to 7 does.
     pub fn all(&self, name: &'static str, refusals: &[u64]) -> Result<(), String> {
         for number in 0..100 {
             let came = self.replies.contains_key(&(name, number));
@@ -37,7 +37,12 @@ impl Seen {
             }
         }
         for (k, a) in refusals.iter().enumerate() {
-            for b in refusals[k + 1..].iter().filter(|b| **b < 15 || !(4..14).contains(a)) {
+            let known = |b: &&u64| match b {
+                15..=17 => !(4..14).contains(a),
+                18.. => !(4..8).contains(a),
+                _ => true,
+            };
+            for b in refusals[k + 1..].iter().filter(known) {
                 if !self.pairs.contains_key(&(name, *a, *b)) {
                     return Err(format!("{name}: no case to which {a} and {b} apply"));
                 }
@@ -78,6 +83,25 @@ mod tests {
         }
         for number in [1, 9, 15] {
             assert_eq!(of(&[&all[..], &[(number, &[number])]].concat()), Err(format!("it answers {number}")));
+        }
+    }
+
+    /// 19 can apply where 1 or 8 is given, and must have.
+    #[test]
+    fn a_missing_pair_with_19_is_seen() {
+        let of = |cases: &[(u64, &[u64])]| {
+            let mut seen = Seen::default();
+            for (given, applying) in cases {
+                seen.count("it", *given, applying);
+            }
+            seen.all("it", &[1, 7, 8, 19])
+        };
+        let all: [(u64, &[u64]); 6] = [(0, &[]), (1, &[1, 7]), (1, &[1, 8, 19]), (7, &[7, 8]), (8, &[8, 19]), (19, &[19])];
+        assert_eq!(of(&all), Ok(()));
+        for k in 0..all.len() {
+            let mut fewer = all.to_vec();
+            fewer.remove(k);
+            assert!(of(&fewer).is_err(), "without {:?}", all[k]);
         }
     }
 }

@@ -1,11 +1,11 @@
 //! Cases of the calls with replies written by hand, from the paper that the library is built to.
 
 use crate::bytes;
-use crate::calls::{set_of, Call, Outcome};
+use crate::calls::{set_of, Call, Outcome, Planner};
 
 /// A call and what must come of it.
 pub struct Written {
-    pub name: &'static str,
+    pub name: String,
     pub call: Call,
     pub outcome: Outcome,
 }
@@ -110,19 +110,62 @@ const PLANS: &[(&str, Pair, u16, &[&[u16]])] = &[
     ("plan, equal routes", (&[5, 511, 0, 9], &[5, 511, 0, 9]), 0, &[]),
 ];
 
-/// Refusals of plans: routes, mode, reply. Most have a later fault as well.
+/// Refusals of both planners: routes, mode, reply. Most have a later fault as well.
 #[rustfmt::skip]
 const REFUSED_PLANS: &[(&str, Pair, u16, Reply)] = &[
-    ("plan, 4, old", (&[1], &[1, 600, 600]), 2, [4, 1, 0]),
-    ("plan, 4, new", (&[1, 512], &[1]), 0, [4, 2, 0]),
-    ("plan, 5, old", (&[1, 512, 1], &[513, 2]), 2, [5, 1, 1]),
-    ("plan, 5, new", (&[1, 2, 2], &[1, 3, 3, 65_535]), 0, [5, 2, 3]),
-    ("plan, 6, old", (&[1, 2, 2, 1], &[1, 1]), 0, [6, 1, 2]),
-    ("plan, 6, new", (&[1, 2], &[3, 5, 4, 5, 3]), 2, [6, 2, 3]),
-    ("plan, 7, both ends", (&[1, 2], &[2, 1]), 2, [7, 0, 0]),
-    ("plan, 7, the last ids", (&[1, 2], &[1, 3]), 2, [7, 0, 1]),
-    ("plan, 8", K3, 2, [8, 0, 0]),
-    ("plan, 8, low byte 0", K3, 256, [8, 0, 0]),
+    ("4, old", (&[1], &[1, 600, 600]), 2, [4, 1, 0]),
+    ("4, new", (&[1, 512], &[1]), 0, [4, 2, 0]),
+    ("5, old", (&[1, 512, 1], &[513, 2]), 2, [5, 1, 1]),
+    ("5, new", (&[1, 2, 2], &[1, 3, 3, 65_535]), 0, [5, 2, 3]),
+    ("6, old", (&[1, 2, 2, 1], &[1, 1]), 0, [6, 1, 2]),
+    ("6, new", (&[1, 2], &[3, 5, 4, 5, 3]), 2, [6, 2, 3]),
+    ("7, both ends", (&[1, 2], &[2, 1]), 2, [7, 0, 0]),
+    ("7, the last ids", (&[1, 2], &[1, 3]), 2, [7, 0, 1]),
+    ("8", K3, 2, [8, 0, 0]),
+    ("8, low byte 0", K3, 256, [8, 0, 0]),
+    ("8, a switch that goes backward in both orders", K6, 2, [8, 0, 0]),
+];
+
+/// Quick plans: routes, rounds, the same in both modes.
+#[rustfmt::skip]
+const QUICK_PLANS: &[(&str, Pair, &[&[u16]])] = &[
+    ("K1", K1, &[]),
+    ("K2", K2, &[&[3], &[1]]),
+    ("K3", K3, &[&[4], &[1], &[2]]),
+    // jumps (old-order, new-order): 1 +2 +2, 2 +2 -1, 3 -1 +2
+    ("no install and no remove", (&[1, 2, 3, 4], &[1, 3, 2, 4]), &[&[1, 2], &[3]]),
+    // as before, between an install and a remove
+    ("four rounds", (&[1, 2, 3, 8, 4], &[1, 3, 2, 9, 4]), &[&[9], &[1, 2], &[3], &[8]]),
+    // 7 keeps its rule, and is in no round
+    ("all switches forward", (&[1, 2, 3, 7, 4], &[1, 5, 3, 6, 7, 4]), &[&[5, 6], &[1, 3], &[2]]),
+    ("no install, one switch", (&[6, 5, 4], &[6, 4]), &[&[6], &[5]]),
+    // 1 has +1 +3
+    ("a jump over installs", (&[1, 9], &[1, 4, 3, 9]), &[&[3, 4], &[1]]),
+    // 8 5 6 7 to 8 6 5 7, and 7 4 3 0 to 7 3 4 0: 8, 5, 7 and 4 go forward in the old order, 6 and 3 backward
+    ("two turns of two", (&[8, 5, 6, 7, 4, 3, 0], &[8, 6, 5, 7, 3, 4, 0]), &[&[4, 5, 7, 8], &[3, 6]]),
+    // 2 keeps its rule; 3 has +2 -2, 4 has -2 +3
+    ("a row of nodes moves", (&[1, 2, 3, 4, 5], &[1, 4, 2, 3, 5]), &[&[1, 3], &[4]]),
+    ("the highest id", (&[511, 0], &[511, 1, 0]), &[&[1], &[511]]),
+    ("equal routes", (&[5, 511, 0, 9], &[5, 511, 0, 9]), &[]),
+];
+
+/// Pairs of routes without a quick plan, in either mode: routes, place.
+#[rustfmt::skip]
+const NO_QUICK_PLAN: &[(&str, Pair, u16)] = &[
+    // K11: 3 has -1 -1
+    ("K6", K6, 3),
+    // 3 and 4 have -1 -1
+    ("K8", K8, 3),
+    ("K8 with other ids", (&[1, 2, 4, 3, 5, 6], &[1, 5, 3, 4, 2, 6]), 3),
+    ("seven nodes", SEVEN, 4),
+    // 21 and 7 have -1 -1, and 21 stands first on both routes; 2 and 30 have a backward jump in the new order, 3 and 32 in the old
+    ("the lowest stands last on both routes", (&[1, 2, 21, 3, 30, 7, 32, 40], &[1, 3, 21, 2, 32, 7, 30, 40]), 7),
+    // the same with nodes of its own on each route
+    ("installs and removes", (&[1, 2, 0, 21, 3, 30, 7, 5, 32, 40], &[1, 9, 3, 21, 2, 32, 6, 7, 30, 8, 40]), 7),
+    // 7, 6 and 9 have -1 -1; the old route has 7 first, the new one has 9
+    ("the lowest stands in the middle", (&[1, 5, 7, 6, 9, 8, 2], &[1, 8, 9, 6, 7, 5, 2]), 6),
+    ("the highest id", (&[0, 1, 511, 2, 3], &[0, 2, 511, 1, 3]), 511),
+    ("the lowest id", (&[9, 1, 0, 2, 3], &[9, 2, 0, 1, 3]), 0),
 ];
 
 pub fn cases() -> Vec<Written> {
@@ -138,16 +181,27 @@ pub fn cases() -> Vec<Written> {
         let call = Call::Walk { old: bytes(old), new: bytes(new), set: set_of(changed) };
         cases.push(kept(name, call, [*number, *site, *place, *node]));
     }
+    let lists = |rounds: &[&[u16]]| rounds.iter().map(|round| round.to_vec()).collect::<Vec<Vec<u16>>>();
     for (name, pair, mode, rounds) in PLANS {
-        let rounds: Vec<Vec<u16>> = rounds.iter().map(|round| round.to_vec()).collect();
-        cases.push(plan(name, *pair, *mode, &rounds));
+        cases.push(plan(name, Planner::Ordinary, *pair, *mode, &lists(rounds)));
     }
-    for (name, (old, new), mode, [number, site, place]) in REFUSED_PLANS {
-        let call = lent_plan(bytes(old), bytes(new), *mode, [1024, 1025]);
-        cases.push(kept(name, call, [*number, *site, *place, 0]));
+    for (name, pair, rounds) in QUICK_PLANS {
+        cases.extend([0, 1].map(|mode| plan(&format!("quick, {name}, mode {mode}"), Planner::Quick, *pair, mode, &lists(rounds))));
+    }
+    for (name, (old, new), place) in NO_QUICK_PLAN {
+        for mode in [0, 1] {
+            let call = lent_plan(Planner::Quick, bytes(old), bytes(new), mode, [1025, 1024]);
+            cases.push(kept(&format!("quick, 19, {name}, mode {mode}"), call, [19, 0, *place, 0]));
+        }
+    }
+    for planner in [Planner::Ordinary, Planner::Quick] {
+        for (name, (old, new), mode, [number, site, place]) in REFUSED_PLANS {
+            let call = lent_plan(planner, bytes(old), bytes(new), *mode, [1024, 1025]);
+            cases.push(kept(&format!("{planner:?}, {name}"), call, [*number, *site, *place, 0]));
+        }
+        cases.extend(unfit_plans(planner));
     }
     cases.extend(unfit());
-    cases.extend(unfit_plans());
     cases.extend(long_plans());
     cases.extend(lengths());
     cases.extend(long());
@@ -155,13 +209,13 @@ pub fn cases() -> Vec<Written> {
 }
 
 /// A call that leaves all slices as they were.
-fn kept(name: &'static str, call: Call, lanes: [u16; 4]) -> Written {
+fn kept(name: &str, call: Call, lanes: [u16; 4]) -> Written {
     let slices = call.slices();
-    Written { name, call, outcome: Outcome { lanes, slices } }
+    Written { name: name.into(), call, outcome: Outcome { lanes, slices } }
 }
 
 /// A check; 16 and 17 write the subset to the front of the lent set.
-fn check(name: &'static str, pair: (&[u16], &[u16]), mode: u16, ids: &[u16], sizes: &[u16], reply: Reply, subset: &[u16]) -> Written {
+fn check(name: &str, pair: (&[u16], &[u16]), mode: u16, ids: &[u16], sizes: &[u16], reply: Reply, subset: &[u16]) -> Written {
     let [old, new, ids, sizes] = [pair.0, pair.1, ids, sizes].map(bytes);
     let call = Call::Check { old, new, mode, ids, sizes, set: LENT.to_vec() };
     let [number, site, place] = reply;
@@ -173,13 +227,13 @@ fn check(name: &'static str, pair: (&[u16], &[u16]), mode: u16, ids: &[u16], siz
 }
 
 /// The call of a plan that is lent so many bytes for the ids and for the sizes.
-fn lent_plan(old: Vec<u8>, new: Vec<u8>, mode: u16, [ids, sizes]: [usize; 2]) -> Call {
-    Call::Plan { old, new, mode, ids: vec![0xc3; ids], sizes: vec![0x96; sizes] }
+fn lent_plan(planner: Planner, old: Vec<u8>, new: Vec<u8>, mode: u16, [ids, sizes]: [usize; 2]) -> Call {
+    Call::Plan { planner, old, new, mode, ids: vec![0xc3; ids], sizes: vec![0x96; sizes] }
 }
 
 /// A plan; its ids and sizes are written to the front of what is lent, which is longer than needed, once by an odd number.
-fn plan(name: &'static str, pair: (&[u16], &[u16]), mode: u16, rounds: &[Vec<u16>]) -> Written {
-    let call = lent_plan(bytes(pair.0), bytes(pair.1), mode, [1027, 1024]);
+fn plan(name: &str, planner: Planner, pair: (&[u16], &[u16]), mode: u16, rounds: &[Vec<u16>]) -> Written {
+    let call = lent_plan(planner, bytes(pair.0), bytes(pair.1), mode, [1027, 1024]);
     let (ids, sizes) = (rounds.concat(), rounds.iter().map(|round| round.len() as u16).collect::<Vec<u16>>());
     let mut case = kept(name, call, [0, sizes.len() as u16, ids.len() as u16, 0]);
     case.outcome.slices[2][..2 * ids.len()].copy_from_slice(&bytes(&ids));
@@ -187,15 +241,21 @@ fn plan(name: &'static str, pair: (&[u16], &[u16]), mode: u16, rounds: &[Vec<u16
     case
 }
 
-/// Refusal 1 of plans. All have a later fault as well.
-fn unfit_plans() -> Vec<Written> {
-    let of = |name, old: usize, new: usize, lent| kept(name, lent_plan(vec![1; old], vec![2; new], 2, lent), [1, 0, 0, 0]);
+/// Refusal 1 of both planners. All have a later fault as well, one of them 19.
+fn unfit_plans(planner: Planner) -> Vec<Written> {
+    let of = |name, [old, new]: [&[u8]; 2], mode, lent| {
+        let call = lent_plan(planner, old.to_vec(), new.to_vec(), mode, lent);
+        kept(&format!("{planner:?}, 1, {name}"), call, [1, 0, 0, 0])
+    };
+    let (two, three) = (&[1; 2], &[2; 3]);
+    let k6 = [bytes(K6.0), bytes(K6.1)];
     vec![
-        of("plan, 1, old odd", 3, 2, [1024, 1024]),
-        of("plan, 1, new odd", 2, 3, [1024, 1024]),
-        of("plan, 1, lent 1,023 bytes for ids", 2, 2, [1023, 1024]),
-        of("plan, 1, lent 1,023 bytes for sizes", 2, 2, [1024, 1023]),
-        of("plan, 1, nothing at all", 0, 0, [0, 0]),
+        of("old odd", [three, two], 2, [1024, 1024]),
+        of("new odd", [two, three], 2, [1024, 1024]),
+        of("lent 1,023 bytes for ids", [two, two], 2, [1023, 1024]),
+        of("lent 1,023 bytes for sizes", [two, two], 2, [1024, 1023]),
+        of("nothing at all", [&[], &[]], 2, [0, 0]),
+        of("K6, lent 1,023 bytes for sizes", k6.each_ref().map(Vec::as_slice), 0, [1024, 1023]),
     ]
 }
 
@@ -204,6 +264,8 @@ fn long_plans() -> Vec<Written> {
     let up: Vec<u16> = (0..256).collect();
     // 0, then 254 down to 1, then 255
     let down: Vec<u16> = std::iter::once(0).chain((1..255).rev()).chain([255]).collect();
+    // 0, then the even ids and the odd ids
+    let even_then_odd: Vec<u16> = (0..256).step_by(2).chain((1..256).step_by(2)).collect();
     let far: Vec<u16> = std::iter::once(0).chain(256..510).chain([255]).collect();
     let longer: Vec<u16> = (0..257).collect();
     // in both modes 0 and 1 go first and 254 last; between, strong mode takes one node after the other, relaxed all at once
@@ -211,18 +273,32 @@ fn long_plans() -> Vec<Written> {
     let one_by_one = ends((2..254).map(|id| vec![id]).collect());
     let at_once = ends(vec![(2..254).collect()]);
     let apart = [(256..510).collect(), vec![0], (1..255).collect()];
-    let refused = |name, old: &[u16], new: &[u16], place| {
-        kept(name, lent_plan(bytes(old), bytes(new), 0, [1024, 1024]), [4, place, 0, 0])
+    // to rising ids: an even id goes to the odd one after it, forward; an odd one back to the even one after it; but 254 is even
+    // and goes to the end. From rising ids: an even id goes on by two; 254 back to 1, and an odd one on by two.
+    let mixed = [(0..256).step_by(2).collect(), (1..254).step_by(2).collect::<Vec<u16>>()];
+    let parted = [(0..254).collect(), vec![254]];
+    let quick = |name, pair: (&[u16], &[u16]), rounds: &[Vec<u16>]| {
+        [0, 1].map(|mode| plan(name, Planner::Quick, pair, mode, rounds))
     };
-    vec![
-        plan("plan, a reversal, strong: 254 rounds", (&up, &down), 0, &one_by_one),
-        plan("plan, a reversal, relaxed: 3 rounds", (&up, &down), 1, &at_once),
-        plan("plan, 509 nodes, strong", (&up, &far), 0, &apart),
-        plan("plan, 509 nodes, relaxed", (&up, &far), 1, &apart),
-        plan("plan, equal routes of 256 ids", (&up, &up), 1, &[]),
-        refused("plan, 4, old of 257 ids", &longer, &up, 1),
-        refused("plan, 4, new of 257 ids", &up, &longer, 2),
-    ]
+    let lent = |planner, old: &[u16], new: &[u16]| lent_plan(planner, bytes(old), bytes(new), 1, [1024, 1024]);
+    let refused = |name, old: &[u16], new: &[u16], route| {
+        [Planner::Ordinary, Planner::Quick].map(|planner| kept(name, lent(planner, old, new), [4, route, 0, 0]))
+    };
+    let mut cases = vec![
+        plan("plan, a reversal, strong: 254 rounds", Planner::Ordinary, (&up, &down), 0, &one_by_one),
+        plan("plan, a reversal, relaxed: 3 rounds", Planner::Ordinary, (&up, &down), 1, &at_once),
+        plan("plan, 509 nodes, strong", Planner::Ordinary, (&up, &far), 0, &apart),
+        plan("plan, 509 nodes, relaxed", Planner::Ordinary, (&up, &far), 1, &apart),
+        plan("plan, equal routes of 256 ids", Planner::Ordinary, (&up, &up), 1, &[]),
+        kept("quick, a reversal", lent(Planner::Quick, &up, &down), [19, 0, 2, 0]),
+    ];
+    cases.extend(quick("quick, 509 nodes", (&up, &far), &apart));
+    cases.extend(quick("quick, equal routes of 256 ids", (&up, &up), &[]));
+    cases.extend(quick("quick, even and odd ids are mixed", (&even_then_odd, &up), &mixed));
+    cases.extend(quick("quick, even and odd ids are parted", (&up, &even_then_odd), &parted));
+    cases.extend(refused("4, old of 257 ids", &longer, &up, 1));
+    cases.extend(refused("4, new of 257 ids", &up, &longer, 2));
+    cases
 }
 
 /// Refusal 1: an odd byte in each list, and lent or given sets of the wrong length. All have a later fault as well.

@@ -1,5 +1,5 @@
--- `house::tell` meets its contract. Each arm hands the three numbers to `three`, and the refusal is the one of that arm; where
--- the variant holds two numbers, the claim is read at it by `rw`. Assumes nothing.
+-- `house::tell` meets its contract. Each arm hands the three numbers to `three`, and the refusal is the one of that arm: the claim is
+-- read at it by `rw`. Assumes nothing.
 use borrow.Author.Needs.{needs}
 use Rattle.house.proofs.tell.Statement.{statement}
 use Rattle.house.proofs.tell.Tie as tie
@@ -112,17 +112,23 @@ enum-known-r-14 c = search needs
 three-requires-18 : tie.Need-three-requires-18
 three-requires-18 c κs = search needs
 
+enum-known-r-15 : tie.Need-enum-known-r-15
+enum-known-r-15 c = search needs
+
+three-requires-19 : tie.Need-three-requires-19
+three-requires-19 c κs = search needs
+
 returns : tie.Need-returns
-returns c = search needs
+returns c = rw (c .before .enum-told .given .1) (c .three .ensures)
 
 returns-2 : tie.Need-returns-2
-returns-2 c = search needs
+returns-2 c = rw (c .before .enum-told2 .given .1) (c .three2 .ensures)
 
 returns-3 : tie.Need-returns-3
-returns-3 c = search needs
+returns-3 c = rw (c .before .before .r .given .1) (c .three3 .ensures)
 
 returns-4 : tie.Need-returns-4
-returns-4 c = search needs
+returns-4 c = rw (c .before .before .r2 .given .1) (c .three4 .ensures)
 
 returns-5 : tie.Need-returns-5
 returns-5 c = rw (c .before .before .r3 .given .1) (c .three5 .ensures)
@@ -131,16 +137,16 @@ returns-6 : tie.Need-returns-6
 returns-6 c = rw (c .before .before .r4 .given .1) (c .three6 .ensures)
 
 returns-7 : tie.Need-returns-7
-returns-7 c = search needs
+returns-7 c = rw (c .before .before .r5 .given .1) (c .three7 .ensures)
 
 returns-8 : tie.Need-returns-8
-returns-8 c = search needs
+returns-8 c = rw (c .before .enum-told3 .given .1) (c .three8 .ensures)
 
 returns-9 : tie.Need-returns-9
-returns-9 c = search needs
+returns-9 c = rw (c .before .enum-told4 .given .1) (c .three9 .ensures)
 
 returns-10 : tie.Need-returns-10
-returns-10 c = search needs
+returns-10 c = rw (c .before .before .r6 .given .1) (c .three10 .ensures)
 
 returns-11 : tie.Need-returns-11
 returns-11 c = rw (c .before .before .r7 .given .1) (c .three11 .ensures)
@@ -152,10 +158,10 @@ returns-13 : tie.Need-returns-13
 returns-13 c = rw (c .before .before .r9 .given .1) (c .three13 .ensures)
 
 returns-14 : tie.Need-returns-14
-returns-14 c = search needs
+returns-14 c = rw (c .before .before .r10 .given .1) (c .three14 .ensures)
 
 returns-15 : tie.Need-returns-15
-returns-15 c = search needs
+returns-15 c = rw (c .before .before .r11 .given .1) (c .three15 .ensures)
 
 returns-16 : tie.Need-returns-16
 returns-16 c = rw (c .before .before .r12 .given .1) (c .three16 .ensures)
@@ -164,7 +170,10 @@ returns-17 : tie.Need-returns-17
 returns-17 c = rw (c .before .before .r13 .given .1) (c .three17 .ensures)
 
 returns-18 : tie.Need-returns-18
-returns-18 c = search needs
+returns-18 c = rw (c .before .before .r14 .given .1) (c .three18 .ensures)
+
+returns-19 : tie.Need-returns-19
+returns-19 c = rw (c .before .before .r15 .given .1) (c .three19 .ensures)
 
 pub tell-spec : {M : Type 1} → statement M
 tell-spec =
@@ -206,6 +215,8 @@ tell-spec =
     three-requires-17
     enum-known-r-14
     three-requires-18
+    enum-known-r-15
+    three-requires-19
     returns
     returns-2
     returns-3
@@ -223,4 +234,5 @@ tell-spec =
     returns-15
     returns-16
     returns-17
-    returns-18)
+    returns-18
+    returns-19)

@@ -1,6 +1,6 @@
 -- `plans::plan::write_plan` meets its contract: the installs are written, then the rounds of switches, then the removes.
 -- Assumes nothing.
-use Rattle.plans.proofs.PlanLaws.{begins, begun-room, begun-ahead, ends-room, written}
+use Rattle.plans.proofs.PlanLaws.{begun-room, begun, begun-ahead, ends-room, written}
 use borrow.Author.Needs.{needs}
 use Rattle.plans.proofs.plan.write_plan.Statement.{statement}
 use Rattle.plans.proofs.plan.write_plan.Tie as tie
@@ -31,7 +31,9 @@ write-round-requires : tie.Need-write-round-requires
 write-round-requires c κs =
     let s = c .before .before .before in
     let p = start s .pre in
-    begun-room _ _ (begins (p .0) (s .before .before .before .before .before .next-values .ensures) (s .before .before .before .before .next-values2 .ensures) (s .seek .ensures)) (p .1) (p .2)
+    let x = s .before .before .before .before .before .next-values in
+    let y = s .before .before .before .before .next-values2 in
+    begun-room (x .result) (y .result) (x .ensures .size) (y .ensures .size) (p .1) (p .2) (s .seek .ensures)
 
 switches-requires : tie.Need-switches-requires
 switches-requires c κs = search needs
@@ -40,11 +42,13 @@ middle-requires : tie.Need-middle-requires
 middle-requires c κs =
     let w = c .before .before .before .before .before .before .before .before .before .before .before .before .before .before in
     let s = sought w in
-    let g = start s .pre .0 in
-    let x = s .before .before .before .before .before .next-values .ensures in
-    let y = s .before .before .before .before .next-values2 .ensures in (
-      begun-ahead g x y (begins g x y (s .seek .ensures)) (w .write-round .ensures) (c .before .before .before .before .before .before .switches .ensures),
-      ((g, x, y), w .write-round .ensures .room),
+    let p = start s .pre in
+    let x = s .before .before .before .before .before .next-values in
+    let y = s .before .before .before .before .next-values2 in (
+      begun-ahead (p .0) (x .ensures) (y .ensures)
+          (begun (x .result) (y .result) (x .ensures .size) (y .ensures .size) (p .1) (p .2) (s .seek .ensures) (w .write-round .ensures))
+          (c .before .before .before .before .before .before .switches .ensures),
+      ((p .0, x .ensures, y .ensures), w .write-round .ensures .room),
     )
 
 seek-requires-2 : tie.Need-seek-requires-2
@@ -54,8 +58,16 @@ write-round-requires-2 : tie.Need-write-round-requires-2
 write-round-requires-2 c κs =
     let r = c .before .before .before in
     let m = middled r in
-    let s = sought (wrote m) in
-    ends-room (start s .pre .0) (s .before .before .before .before .before .next-values .ensures) (s .before .before .before .before .next-values2 .ensures) (m .middle .ensures) (r .seek2 .ensures)
+    let w = wrote m in
+    let s = sought w in
+    let p = start s .pre in
+    let x = s .before .before .before .before .before .next-values in
+    let y = s .before .before .before .before .next-values2 in
+    ends-room (p .0) (x .ensures) (y .ensures)
+    (begun (x .result) (y .result) (x .ensures .size) (y .ensures .size) (p .1) (p .2) (s .seek .ensures) (w .write-round .ensures))
+    {mode = start s .args .mode}
+    (m .middle .ensures)
+    (r .seek2 .ensures)
 
 whole : tie.Need-returns
 whole c =
@@ -63,10 +75,14 @@ whole c =
     let m = middled r in
     let w = wrote m in
     let s = sought w in
-    let g = start s .pre .0 in
-    let x = s .before .before .before .before .before .next-values .ensures in
-    let y = s .before .before .before .before .next-values2 .ensures in
-    written g x y (m .middle .ensures) (r .seek2 .ensures) (begins g x y (s .seek .ensures)) (w .write-round .ensures)
+    let p = start s .pre in
+    let x = s .before .before .before .before .before .next-values in
+    let y = s .before .before .before .before .next-values2 in
+    written (p .0) (x .ensures) (y .ensures)
+    (begun (x .result) (y .result) (x .ensures .size) (y .ensures .size) (p .1) (p .2) (s .seek .ensures) (w .write-round .ensures))
+    {mode = start s .args .mode}
+    (m .middle .ensures)
+    (r .seek2 .ensures)
     (c .before .before .before .before .write-round2 .ensures)
 
 same-length : tie.Need-same-length

@@ -1,9 +1,9 @@
--- `plans::plan::enter` meets its contract: each return is one of the ways in which a node is entered. Assumes nothing.
+-- `plans::enter` meets its contract: each return is one of the ways in which a node is entered. Assumes nothing.
 use native.Mathlib.Omega.{arith}
 use Rattle.plans.specs.Working.{passed, entered}
 use borrow.Author.Needs.{needs}
-use Rattle.plans.proofs.plan.enter.Statement.{statement}
-use Rattle.plans.proofs.plan.enter.Tie as tie
+use Rattle.plans.proofs.enter.Statement.{statement}
+use Rattle.plans.proofs.enter.Tie as tie
 
 element-copy-out-if1 : tie.Need-element-copy-out-if1
 element-copy-out-if1 c = search needs

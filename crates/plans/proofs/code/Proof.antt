@@ -1,9 +1,9 @@
--- `plans::plan::code` meets its contract: each arm is a case of `codeOf`. Assumes nothing.
+-- `plans::code` meets its contract: each arm is a case of `codeOf`. Assumes nothing.
 use mathlib.Core.Path.{ap, sym, _∙_}
 use Rattle.plans.specs.Working.{codeOf}
 use borrow.Author.Needs.{needs}
-use Rattle.plans.proofs.plan.code.Statement.{statement}
-use Rattle.plans.proofs.plan.code.Tie as tie
+use Rattle.plans.proofs.code.Statement.{statement}
+use Rattle.plans.proofs.code.Tie as tie
 
 kind-requires : tie.Need-kind-requires
 kind-requires c κs = search needs

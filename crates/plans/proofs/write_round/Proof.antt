@@ -1,10 +1,10 @@
--- `plans::plan::write_round` meets its contract: once all nodes of the present round are entered the round is written, with
+-- `plans::write_round` meets its contract: once all nodes of the present round are entered the round is written, with
 -- their number if there are any. Assumes nothing.
 use native.Mathlib.Omega.{arith}
 use Rattle.plans.proofs.WriteLaws.{entering-begins, round-fits, wrote-none, wrote-some}
 use borrow.Author.Needs.{needs}
-use Rattle.plans.proofs.plan.write_round.Statement.{statement}
-use Rattle.plans.proofs.plan.write_round.Tie as tie
+use Rattle.plans.proofs.write_round.Statement.{statement}
+use Rattle.plans.proofs.write_round.Tie as tie
 
 enter-all-requires : tie.Need-enter-all-requires
 enter-all-requires c κs = entering-begins (c .before .before .before .before .pre)

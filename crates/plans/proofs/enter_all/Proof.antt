@@ -1,12 +1,12 @@
--- `plans::plan::enter_all` meets its contract. The loop's invariant: the nodes below v of the present round are written and
+-- `plans::enter_all` meets its contract. The loop's invariant: the nodes below v of the present round are written and
 -- placed, and the ids are as many as nodes are placed. The measure is 512 less v. Assumes nothing.
 use Prim.Native.Nat.{ℕ, _-_, _≤_}
 use mathlib.Core.Path.{_≡_}
 use native.Mathlib.Omega.{arith}
 use Rattle.plans.specs.Working.{Entering}
 use Rattle.plans.proofs.WriteLaws.{entering-room, entering-turn}
-use Rattle.plans.proofs.plan.enter_all.Statement.{statement}
-use Rattle.plans.proofs.plan.enter_all.Tie as tie
+use Rattle.plans.proofs.enter_all.Statement.{statement}
+use Rattle.plans.proofs.enter_all.Tie as tie
 
 abbrev Inv-loop : tie.InvT-loop
 Inv-loop choice₀ ids₀ count n₀ v₀ choice ids n v = Entering choice₀ ids₀ count choice ids n v × (v ≤ 512)

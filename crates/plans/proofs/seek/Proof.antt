@@ -1,22 +1,22 @@
--- `plans::plan::seek` meets its contract. The loop's invariant: the nodes sought below v are of the present round, and all
+-- `plans::seek` meets its contract. The loop's invariant: the nodes sought below v are of the present round, and all
 -- others are as they were. The measure is 512 less v. Assumes nothing.
 use Prim.Native.Nat.{ℕ, _-_, _≤_}
 use native.Mathlib.Omega.{arith}
 use mathlib.Core.Path.{_≡_}
 use borrow.Author.Needs.{needs}
-use Rattle.plans.specs.Working.{Sought}
-use Rattle.plans.proofs.SeekLaws.{sought-begins, sought-skips, sought-takes}
-use Rattle.plans.proofs.plan.seek.Statement.{statement}
-use Rattle.plans.proofs.plan.seek.Tie as tie
+use Rattle.plans.specs.Working.{coded, Sought}
+use Rattle.plans.proofs.SeekLaws.{code-is, code-other, sought-begins, sought-skips, sought-takes}
+use Rattle.plans.proofs.seek.Statement.{statement}
+use Rattle.plans.proofs.seek.Tie as tie
 
 abbrev Inv-loop : tie.InvT-loop
-Inv-loop old new sought choice₀ v₀ choice v = Sought sought old new choice₀ choice v × (v ≤ 512)
+Inv-loop old new sought choice₀ v₀ choice v = Sought (coded old new sought) choice₀ choice v × (v ≤ 512)
 
 abbrev μ-loop : tie.MeasureT-loop
 μ-loop old new sought choice₀ v₀ choice v = 512 - v
 
 loop-holds : tie.Need-loop-holds Inv-loop μ-loop
-loop-holds c = (sought-begins _ _ _ (c .pre), omega arith)
+loop-holds c = (sought-begins _ (c .pre), omega arith)
 
 code-at-requires : tie.Need-code-at-requires Inv-loop μ-loop
 code-at-requires c κs = search needs
@@ -29,7 +29,7 @@ loop-less c = omega arith
 
 loop-again : tie.Need-loop-again Inv-loop μ-loop
 loop-again c =
-    (sought-skips (c .before .before .before .loop .inv .0) (c .before .before .loop-test .taken) (c .before .code-at .ensures) (c .if1 .taken), omega arith)
+    (sought-skips (c .before .before .before .loop .inv .0) (c .before .before .loop-test .taken) (code-other _ (c .before .code-at .ensures) (c .if1 .taken)), omega arith)
 
 element-write-choice : tie.Need-element-write-choice Inv-loop μ-loop
 element-write-choice c = omega (arith, c .before .before .before .loop .inv .0 .size)
@@ -42,7 +42,7 @@ loop-less-2 c = omega arith
 
 loop-again-2 : tie.Need-loop-again-2 Inv-loop μ-loop
 loop-again-2 c =
-    (sought-takes (c .before .before .before .loop .inv .0) (c .before .before .loop-test .taken) (c .before .code-at .ensures) (c .if1 .left), omega arith)
+    (sought-takes (c .before .before .before .loop .inv .0) (c .before .before .loop-test .taken) (code-is _ (c .before .code-at .ensures) (c .if1 .left)), omega arith)
 
 returns : tie.Need-returns Inv-loop μ-loop
 returns c = let e : _≡_ {A = ℕ} (c .before .loop .v) 512 = omega arith in rw e at (c .before .loop .inv .0)

@@ -1,9 +1,9 @@
--- `plans::plan::code_at` meets its contract: both tables have 512 entries, so no default is read. Assumes nothing.
+-- `plans::code_at` meets its contract: both tables have 512 entries, so no default is read. Assumes nothing.
 use mathlib.Core.Path.{_∙_}
 use Rattle.plans.proofs.SeekLaws.{code-read}
 use borrow.Author.Needs.{needs}
-use Rattle.plans.proofs.plan.code_at.Statement.{statement}
-use Rattle.plans.proofs.plan.code_at.Tie as tie
+use Rattle.plans.proofs.code_at.Statement.{statement}
+use Rattle.plans.proofs.code_at.Tie as tie
 
 mul-code : tie.Need-mul-code
 mul-code c = search needs
