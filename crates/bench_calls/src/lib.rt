@@ -1,5 +1,7 @@
 // What the benchmark calls beside the C calls: the two searches, the reader and the writer. Each passes its arguments on; the
 // replies of the reader and the writer are packed into one number.
+#![tactic(auto)]
+
 ghost use Rattle.std.specs.Prelude.{min, ◌≡◌};
 ghost use Rattle.graph.specs.Search.{Reached, Cyclic};
 ghost use Rattle.bench_calls.specs.Packed.{packed, refusal_packed, ReadCall, WriteCall};

@@ -3,6 +3,8 @@
 // A request is 2,048 bytes on standard input. Its first five entries are what is asked (1 the judgement, 2 the jumps, 3 the
 // walk), a node, and the byte lengths of the old route, the new route and the set, which begin at the bytes 16, 640 and
 // 1,264. Each request is answered by a line on standard output.
+#![tactic(auto)]
+
 ghost use Rattle.std.specs.Prelude.{◌≡◌, nat_abs};
 
 use house::Refusal;

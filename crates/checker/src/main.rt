@@ -1,4 +1,6 @@
 // Reads a plan file on standard input, no more than 4,093 bytes of it, and prints one line: OK or NO.
+#![tactic(auto)]
+
 use libc::{STDIN_FILENO, STDOUT_FILENO};
 
 fn main() {

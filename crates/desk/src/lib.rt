@@ -1,6 +1,8 @@
 // What the two programs print for the bytes of a plan file: the checker one line, the planner a plan file or the NO line. It
 // stands at the front of the lent bytes; the reply is its length. A line is a word and numbers, fields one space apart, in
 // decimal, ended by a line feed.
+#![tactic(auto)]
+
 ghost use Rattle.std.specs.Prelude.{◌≡◌, [], ◌∷◌, ◌++◌, ◌+◌, ◌≤◌, length};
 ghost use Rattle.house.specs.Sets.{has};
 ghost use Rattle.plans.specs.Plan.{rising};

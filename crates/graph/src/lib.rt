@@ -1,3 +1,5 @@
+#![tactic(auto)]
+
 ghost use Rattle.std.specs.Prelude.{◌≡◌, ◌+◌, ◌<◌, true, false, length, get_or};
 ghost use Rattle.graph.specs.Search.{Reached, Leads, Cyclic};
 ghost use Rattle.graph.specs.Working.{one, other, Tables, Room, Visited, Begun};

@@ -2,6 +2,8 @@
 //
 // Lists of ids and sizes go in and out as bytes, two to an entry, little-endian; sets of ids as eight words of 64 bits,
 // which are 64 bytes, little-endian, where they cross a call. Each function here takes any bytes and any number.
+#![tactic(auto)]
+
 ghost use Rattle.std.specs.Prelude.{◌≡◌, false, ◌+◌, ◌<◌, ◌≤◌, length, get_or, take, drop};
 ghost use Rattle.std.specs.Int.Count.{ones, count_trailing_zeros};
 ghost use Rattle.std.proofs.lemmas.List.Edits.{sets};

@@ -1,5 +1,7 @@
 // The calls for the C controller, and nothing else: each passes its bytes on and packs the reply into four 16-bit lanes,
 // lowest first: number, where, place, node. `include/jiwasampu.h` declares them.
+#![tactic(auto)]
+
 ghost use Rattle.std.specs.Prelude.{◌<◌, min, ◌≡◌};
 ghost use Rattle.jiwasampu.specs.Lanes.{lanes, refusal_lanes, plan_lanes, CheckCall, PlanCall, QuickCall, WalkCall};
 

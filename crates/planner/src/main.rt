@@ -1,5 +1,7 @@
 // Reads a plan file on standard input, no more than 4,093 bytes of it, and writes the plan file with the rounds of the plan, or the NO
 // line.
+#![tactic(auto)]
+
 use libc::{STDIN_FILENO, STDOUT_FILENO};
 
 fn main() {

@@ -2,6 +2,8 @@
 //
 // A choice list holds for each node what its round is: 1 for a round before the present one, 2 for the present round, 0 for
 // none yet. It is what the searches of `graph` take as the nodes' choice.
+#![tactic(auto)]
+
 pub mod plan;
 pub mod quick;
 

@@ -1,4 +1,6 @@
 // Judging a schedule (8 to 14) and checking its rounds (15 to 17).
+#![tactic(auto)]
+
 pub mod check;
 mod faults;
 pub mod schedule;
