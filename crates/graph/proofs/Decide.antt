@@ -72,7 +72,7 @@ module _ {R : ℕ → ℕ → Type 0} {N : ℕ} (leaves : (x y : ℕ) → R x y 
   step_via {a} {b} r (inl e) = last (subst (R a) e r)
   step_via {a} {b} r (inr Q) = let (u, t, P) = via_first Q in past r (leaves b u t) Q
 
-  pub path_via : {a w : ℕ} → Path R w a → (a ≡ w) ⊎ Via R N w a
+  pub path_via : {w a : ℕ} → Path R w a → (a ≡ w) ⊎ Via R N w a
   path_via (stop e) = inl e
   path_via (step r P) = inr (step_via r (path_via P))
 

@@ -111,7 +111,7 @@ record Leading (o n : ℕ → ℕ) (c : ℕ → Choice) {a w : ℕ} (P : Path (S
   respected : Respects c state
   leads : (v : ℕ) → Src v P → Leads (next o n state) (λ u. Src u P) w v
 
-leading : (o n : ℕ → ℕ) (c : ℕ → Choice) {a w : ℕ} (P : Path (Step o n c) w a) → Leading o n c P
+leading : (o n : ℕ → ℕ) (c : ℕ → Choice) {w a : ℕ} (P : Path (Step o n c) w a) → Leading o n c P
 leading o n c (stop e) = record { state = usual c; respected = usual_respects c; leads = λ v. absurd }
 leading o n c {w = w} (step {a = a} {b = b} s P) = go (leading o n c P) (dec_src a P)
   where

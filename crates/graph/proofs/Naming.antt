@@ -177,6 +177,10 @@ ok_one : (q : Choice) (a b : Bool) → (q ≡ either → ⊥) → Ok q a → Ok 
 ok_one old false false n x y = refl
 ok_one new true true n x y = refl
 ok_one either a b n x y = absurd (n refl)
+ok_one old false true n x y = elim y [ ]
+ok_one old true b n x y = elim x [ ]
+ok_one new false b n x y = elim x [ ]
+ok_one new true false n x y = elim y [ ]
 
 pub named_end : {Sh : State → Type 0} {c c' : ℕ → Choice} {i : ℕ} → Named Sh c i c'
     → ((v : ℕ) → i ≤ v → c v ≡ either → ⊥)

@@ -15,7 +15,7 @@ module _
     {R R' : ℕ → ℕ → Type 0} {v z : ℕ}
     (adds : (x y : ℕ) → R' x y → R x y ⊎ ((x ≡ v) × (y ≡ z)))
   where
-    pub path_added : {a w : ℕ} → Path R' w a → Path R w a ⊎ (Path R v a × Path R w z)
+    pub path_added : {w a : ℕ} → Path R' w a → Path R w a ⊎ (Path R v a × Path R w z)
     path_added (stop e) = inl (stop e)
     path_added {w = w} (step {a = x} {b = y} s P) = go (adds x y s) (path_added P)
       where

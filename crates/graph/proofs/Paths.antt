@@ -34,7 +34,7 @@ pub path_cast : {R : ℕ → ℕ → Type 0} {a b w : ℕ} → a ≡ b → Path 
 path_cast e (stop d) = stop (e ∙ d)
 path_cast {R} e (step {b = x} s P) = step (subst (λ (y : ℕ). R y x) (sym e) s) P
 
-pub path_joins : {R : ℕ → ℕ → Type 0} {a b w : ℕ} → Path R b a → Path R w b → Path R w a
+pub path_joins : {R : ℕ → ℕ → Type 0} {b a w : ℕ} → Path R b a → Path R w b → Path R w a
 path_joins (stop e) Q = path_cast e Q
 path_joins (step s P) Q = step s (path_joins P Q)
 
@@ -44,26 +44,26 @@ path_ends P e = path_joins P (stop e)
 pub path_more : {R : ℕ → ℕ → Type 0} {a b w : ℕ} → Path R b a → R b w → Path R w a
 path_more P s = path_joins P (step s (stop refl))
 
-pub path_reverses : {R : ℕ → ℕ → Type 0} {a w : ℕ} → Path (λ x y. R y x) w a → Path R a w
+pub path_reverses : {R : ℕ → ℕ → Type 0} {w a : ℕ} → Path (λ x y. R y x) w a → Path R a w
 path_reverses (stop e) = stop (sym e)
 path_reverses (step s P) = path_more (path_reverses P) s
 
-pub path_maps : {R R' : ℕ → ℕ → Type 0} {a w : ℕ} → ((x y : ℕ) → R x y → R' x y) → Path R w a → Path R' w a
+pub path_maps : {R R' : ℕ → ℕ → Type 0} {w a : ℕ} → ((x y : ℕ) → R x y → R' x y) → Path R w a → Path R' w a
 path_maps f (stop e) = stop e
 path_maps f (step {a = x} {b = y} s P) = step (f x y s) (path_maps f P)
 
-path_last : {R : ℕ → ℕ → Type 0} {b w : ℕ} (a : ℕ) → R a b → Path R w b → (y : ℕ) × R y w
+path_last : {R : ℕ → ℕ → Type 0} {w b : ℕ} (a : ℕ) → R a b → Path R w b → (y : ℕ) × R y w
 path_last {R} a s (stop e) = (a, subst (λ (z : ℕ). R a z) e s)
 path_last a s (step {a = x} t P) = path_last x t P
 
-pub path_flattens : {R : ℕ → ℕ → Type 0} {a w : ℕ} → Path (λ x y. Path R y x) w a → Path R w a
+pub path_flattens : {R : ℕ → ℕ → Type 0} {w a : ℕ} → Path (λ x y. Path R y x) w a → Path R w a
 path_flattens (stop e) = stop e
 path_flattens (step P Q) = path_joins P (path_flattens Q)
 
 pub around_entered : {R : ℕ → ℕ → Type 0} {v : ℕ} → Around R v → (y : ℕ) × R y v
 around_entered {v = v} (u, s, P) = path_last v s P
 
-pub path_stays : {R : ℕ → ℕ → Type 0} {a w : ℕ} (S : ℕ → Type 0) → ((x y : ℕ) → S x → R x y → S y) → S a → Path R w a → S w
+pub path_stays : {R : ℕ → ℕ → Type 0} {w a : ℕ} (S : ℕ → Type 0) → ((x y : ℕ) → S x → R x y → S y) → S a → Path R w a → S w
 path_stays S f h (stop e) = subst S e h
 path_stays S f h (step {a = x} {b = y} s P) = path_stays S f (f x y h s) P
 
@@ -71,7 +71,7 @@ starts_in : {R : ℕ → ℕ → Type 0} {a w : ℕ} (S : ℕ → Type 0) → ((
 starts_in S f h (stop e) = subst S (sym e) h
 starts_in S f h (step {a = x} {b = y} s P) = f x y s
 
-pub path_within : {R : ℕ → ℕ → Type 0} {a w : ℕ} (S : ℕ → Type 0)
+pub path_within : {R : ℕ → ℕ → Type 0} {w a : ℕ} (S : ℕ → Type 0)
     → ((x y : ℕ) → R x y → S x)
     → S w
     → Path R w a
@@ -80,7 +80,7 @@ path_within S f h (stop e) = stop e
 path_within S f h (step {a = x} {b = y} s P) =
     step (record { from = f x y s; steps = s; to = starts_in S f h P }) (path_within S f h P)
 
-pub path_carries : {R : ℕ → ℕ → Type 0} {a w : ℕ} (S : ℕ → Type 0)
+pub path_carries : {R : ℕ → ℕ → Type 0} {w a : ℕ} (S : ℕ → Type 0)
     → ((x y : ℕ) → S x → R x y → S y)
     → S a
     → Path R w a
@@ -114,11 +114,11 @@ pub within_maps : {R : ℕ → ℕ → Type 0} {S S' : ℕ → Type 0}
     → Within S' R a b
 within_maps f a b s = record { from = f a s.from; steps = s.steps; to = f b s.to }
 
-abbrev pub Src : {R : ℕ → ℕ → Type 0} {a w : ℕ} → ℕ → Path R w a → Type 0
+abbrev pub Src : {R : ℕ → ℕ → Type 0} {w a : ℕ} → ℕ → Path R w a → Type 0
 Src u (stop e) = ⊥
 Src u (step {a = x} s P) = (u ≡ x) ⊎ Src u P
 
-pub dec_src : {R : ℕ → ℕ → Type 0} {a w : ℕ} (u : ℕ) (P : Path R w a) → Dec (Src u P)
+pub dec_src : {R : ℕ → ℕ → Type 0} {w a : ℕ} (u : ℕ) (P : Path R w a) → Dec (Src u P)
 dec_src u (stop e) = no (λ h. h)
 dec_src u (step {a = x} s P) = go (ℕ_discrete u x) (dec_src u P)
   where
@@ -135,26 +135,30 @@ src_cast : {R : ℕ → ℕ → Type 0} {a b w : ℕ} (e : a ≡ b) (u : ℕ) (P
 unfolding path_cast
 src_cast e u (step s P) (inl d) = inl (d ∙ sym e)
 src_cast e u (step s P) (inr h) = inr h
+src_cast {R = R} {a = a} {b = b} {w = w} e u (stop _) x4 = elim x4 [ ]
 
-pub src_joins : {R : ℕ → ℕ → Type 0} {a b w : ℕ} (P : Path R b a) (Q : Path R w b) (u : ℕ) → Src u Q → Src u (path_joins P Q)
+pub src_joins : {R : ℕ → ℕ → Type 0} {b a w : ℕ} (P : Path R b a) (Q : Path R w b) (u : ℕ) → Src u Q → Src u (path_joins P Q)
 unfolding path_joins
 src_joins (stop e) Q u h = src_cast e u Q h
 src_joins (step s P) Q u h = inr (src_joins P Q u h)
 
-pub src_maps : {R R' : ℕ → ℕ → Type 0} {a w : ℕ} (f : (x y : ℕ) → R x y → R' x y) (P : Path R w a) (u : ℕ)
+pub src_maps : {R R' : ℕ → ℕ → Type 0} {w a : ℕ} (f : (x y : ℕ) → R x y → R' x y) (P : Path R w a) (u : ℕ)
     → Src u (path_maps f P)
     → Src u P
 unfolding path_maps
 src_maps f (step s P) u (inl e) = inl e
 src_maps f (step s P) u (inr h) = inr (src_maps f P u h)
+src_maps {R = R} {w = w} f (stop {a = a} _) u x3 = elim x3 [ ]
 
-pub path_after : {R : ℕ → ℕ → Type 0} {a w : ℕ} (u : ℕ) (P : Path R w a) → Src u P → (x : ℕ) × R u x × Path R w x
+pub path_after : {R : ℕ → ℕ → Type 0} {w a : ℕ} (u : ℕ) (P : Path R w a) → Src u P → (x : ℕ) × R u x × Path R w x
 path_after {R} u (step {a = a} {b = b} s P) (inl e) = (b, subst (λ (y : ℕ). R y b) (sym e) s, P)
 path_after u (step s P) (inr h) = path_after u P h
+path_after {R = R} {w = w} u (stop {a = a} _) x3 = elim x3 [ ]
 
-pub path_before : {R : ℕ → ℕ → Type 0} {a w : ℕ} (u : ℕ) (P : Path R w a) → Src u P → Path R u a
+pub path_before : {R : ℕ → ℕ → Type 0} {w a : ℕ} (u : ℕ) (P : Path R w a) → Src u P → Path R u a
 path_before u (step s P) (inl e) = stop (sym e)
 path_before u (step s P) (inr h) = step s (path_before u P h)
+path_before {R = R} {w = w} u (stop {a = a} _) x3 = elim x3 [ ]
 
 pub path_along : {R : ℕ → ℕ → Type 0} (p : ℕ → ℕ) (i j : ℕ) → i ≤ j
     → ((k : ℕ) → i ≤ k → k < j → R (p k) (p (suc k)))

@@ -20,7 +20,7 @@ module _ {R : ℕ → ℕ → Type 0} (S S' : ℕ → Type 0) (x : ℕ)
   keeps : (a b : ℕ) → Within S R a b → (a ≡ x → ⊥) → Within S' R a b
   keeps a b t h = record { from = rest a t.from h; steps = t.steps; to = rest b t.to (enters a b t) }
 
-  path_keeps : {a w : ℕ} → (a ≡ x → ⊥) → Path (Within S R) w a → Path (Within S' R) w a
+  path_keeps : {w a : ℕ} → (a ≡ x → ⊥) → Path (Within S R) w a → Path (Within S' R) w a
   path_keeps h (stop e) = stop e
   path_keeps h (step {a = a} {b = b} t P) = step (keeps a b t h) (path_keeps (enters a b t) P)
 

@@ -9,7 +9,7 @@ use mathlib.Core.Path.{ap}
 use Rattle.graph.specs.Graph.{Choice, Step, Path, stop, step, Around}
 use Rattle.graph.proofs.Paths.{around_within}
 
-pub path_rises : {R : ℕ → ℕ → Type 0} {a w : ℕ} (f : ℕ → ℕ) → ((x y : ℕ) → R x y → f x < f y) → Path R w a → f a ≤ f w
+pub path_rises : {R : ℕ → ℕ → Type 0} {w a : ℕ} (f : ℕ → ℕ) → ((x y : ℕ) → R x y → f x < f y) → Path R w a → f a ≤ f w
 path_rises f r (stop e) = omega (arith, ap f e)
 path_rises f r (step {a = x} {b = y} s P) = omega (arith, r x y s, path_rises f r P)
 

@@ -75,6 +75,8 @@ two_bits old false a b k = inl refl
 two_bits new true a b k = inl refl
 two_bits either true a b k = inr refl
 two_bits either false a b k = inl refl
+two_bits old true a b k = elim k [ ]
+two_bits new false a b k = elim k [ ]
 
 step_by : (o n c : List ℕ) (v w : ℕ)
     → v < 512
@@ -329,7 +331,7 @@ search_ends {o} {n} {c} {s} {h} {m} {q} {t} r l =
     done : (v : ℕ) → get_or m v false ≡ true → Done o n c m v
     done v e = ⊎_elim (λ d. d) (λ a. absurd (omega (arith, a.from, a.before))) (r.search.closed v e)
 
-    along : {a w : ℕ} → w < 514 → get_or m a false ≡ true → Path (Steps o n c) w a → get_or m w false ≡ true
+    along : {w a : ℕ} → w < 514 → get_or m a false ≡ true → Path (Steps o n c) w a → get_or m w false ≡ true
     along k e (stop d) = rw (← d) e
     along k e (step {a = x} {b = y} u P) = along k ((done x e).done y u (path_low o n c P k)) P
 

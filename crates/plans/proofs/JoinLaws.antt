@@ -28,7 +28,7 @@ use Rattle.plans.specs.Working.{Closes, Fits, Seen, Free, Tried, may, may_not, F
 use Rattle.plans.proofs.IdLists.{by_bool, clash, either_or, or_left, or_right}
 
 module _ {R : ℕ → ℕ → Type 0} (S : ℕ → Type 0) (closed : (x y : ℕ) → S x → R x y → S y) where
-  pub path_outside : {a w : ℕ} → (S w → ⊥) → Path R w a → Path (Within (λ x. S x → ⊥) R) w a
+  pub path_outside : {w a : ℕ} → (S w → ⊥) → Path R w a → Path (Within (λ x. S x → ⊥) R) w a
   path_outside n (stop e) = stop e
   path_outside n (step s P) =
       step

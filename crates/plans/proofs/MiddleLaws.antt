@@ -158,7 +158,7 @@ module _ {o n a b : List ℕ} {s mode : ℕ} (g : Setting o n a b s) where
       let h : Free c v = r.free v (on_first v vs) in
       let w' : Shown P (changed R v) (set c v 2) = shown_joins w l h in
       let m' : Midway o n P (changed R v) = midway_joins v m (r.switch v (on_first v vs)) in
-      let (j, e) = tries_joining t (length-set c v 2 ∙ l) w' m' (ready_joins r) in
+      let (j, e) = tries_joining {R = changed R v} t (length-set c v 2 ∙ l) w' m' (ready_joins r) in
       (plan.joins (fits_passes g w' m' f) j, e)
   tries_joining {P} {R} {c} (waits {v} {vs} f t) l w m r =
       let w' : Shown P (changed R v) (set c v 2) = shown_joins w l (r.free v (on_first v vs)) in

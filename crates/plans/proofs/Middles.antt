@@ -434,8 +434,8 @@ rests_joined :
     → Rests o n (together P R') l W
 rests_joined none all_tried = none
 rests_joined {R' = R'} (skip {u} h r) j = skip (λ s. or_left (R' u) (h s)) (rests_joined r j)
-rests_joined {P = P} (take {v} s r) (joins p j) =
-    skip (λ e. or_right (P v) (joining_keeps v j (rw (eq-eqb v v refl)))) (rests_joined r j)
+rests_joined {P = P} {R = R} (take {v} s r) (joins p j) =
+    skip (λ e. or_right (P v) (joining_keeps v j (rw (eq-eqb v v refl)))) (rests_joined {R = changed R v} r j)
 rests_joined (take s r) (waits q j) = take s (rests_joined r j)
 
 rests_midway :
@@ -446,7 +446,7 @@ rests_midway :
     → Midway o n P R'
 rests_midway none all_tried m = m
 rests_midway (skip h r) j m = rests_midway r j m
-rests_midway (take {v} s r) (joins p j) m = rests_midway r j (midway_joins v m s)
+rests_midway {R = R} (take {v} s r) (joins p j) m = rests_midway {R = changed R v} r j (midway_joins v m s)
 rests_midway (take s r) (waits q j) m = rests_midway r j m
 
 pub record Waiting (mode : ℕ) (o n : List ℕ) (P : State) (vs : List ℕ) : Type 0 where

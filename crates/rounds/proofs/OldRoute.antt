@@ -76,7 +76,8 @@ module _ {o : List ℕ} (n : List ℕ) (g : GoodRoute o) where
           last (some u) q =
               let r : Hop o u v = rule_hop o u q in
               let a : (r.index + 1 + suc k < length o) × (get_or o (r.index + 1 + suc k) 0 ≡ v) =
-              along (r.index + 1) (suc k) r.within (rw r.next e)
+              along (r.index + 1) (suc k) r.within
+              (subst (λ (x : ℕ). place (in_state o n unchanged) x (suc k) ≡ some v) (sym r.next) e)
               in
               omega (
                 arith,

@@ -72,6 +72,7 @@ unfolding falses
 falses_set (true ∷ l) zero h e = let z : ◌≡◌ {A = ℕ} 0 1 = cc in absurd (omega arith)
 falses_set (false ∷ l) zero h e = omega arith
 falses_set (b ∷ l) (suc i) h e = omega (arith, falses_set l i (omega arith) e)
+falses_set [] i h e = elim h [ ]
 
 pub falses_less : (l : List Bool) (i : ℕ) → i < length l → get_or l i false ≡ false → falses (set l i true) < falses l
 falses_less l i h e = omega (arith, falses_set l i h e)

@@ -1,0 +1,15 @@
+-- `graph::meets` meets its contract. The loop's invariant is that of `search`: the marked numbers, among them the start, are
+-- reached, and each marked number waits in the queue from the head on or has all its next values marked. The measure is
+-- 514 less the head. What is marked is reached; when none waits, what is not marked is not.
+use Prim.Native.Nat.{◌-◌, ◌<◌}
+use native.Mathlib.Omega.{arith}
+use mathlib.Core.Path.{refl}
+use Rattle.graph.specs.Working.{Begun}
+use Rattle.graph.proofs.SearchLaws.{room_begins, room_bound, search_begins, leads_ends}
+use Rattle.graph.proofs.meets.Given as goal
+
+abbrev pub invariant-loop-head : goal.invariant-loop-head
+invariant-loop-head l = Begun l.old l.new l.choice l.from l.seen l.queue l.head l.tail
+
+abbrev pub decreases-loop-head : goal.decreases-loop-head
+decreases-loop-head l = 514 - l.head

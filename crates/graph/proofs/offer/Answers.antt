@@ -1,0 +1,33 @@
+-- `graph::offer` meets its contract: each return is one of the ways in which a number is offered.
+use Prim.Native.Nat.{◌<◌}
+use native.Mathlib.Omega.{arith}
+use borrow.Author.Tests.{not-true, not-false}
+use Rattle.graph.specs.Working.{over, gone, busy, free}
+use Rattle.graph.proofs.offer.Goals as goal
+
+pub returns-then-w-ge512 : goal.returns-then-w-ge512
+returns-then-w-ge512 c = over c.if-w-ge512.true
+
+pub returns-then-not-rest-w : goal.returns-then-not-rest-w
+returns-then-not-rest-w c = gone c.if-not-rest-w.true
+
+pub returns-then-count-w-gt0 : goal.returns-then-count-w-gt0
+returns-then-count-w-gt0 c = busy (omega (arith, c.if-count-w-gt0.true))
+
+pub offset_bounds-queue-tail : goal.offset_bounds-queue-tail
+offset_bounds-queue-tail c =
+    let room : c.args.tail < 512 = c.requires c.if-not-rest-w.false in
+    omega (arith, room)
+
+pub bounds-queue-tail : goal.bounds-queue-tail
+bounds-queue-tail c =
+    let room : c.args.tail < 512 = c.requires c.if-not-rest-w.false in
+    room
+
+pub overflow_add-result : goal.overflow_add-result
+overflow_add-result c =
+    let room : c.args.tail < 512 = c.requires c.if-not-rest-w.false in
+    omega (arith, room)
+
+pub returns : goal.returns
+returns c = free c.if-w-ge512.false c.if-not-rest-w.false (omega (arith, c.if-count-w-gt0.false))

@@ -1,0 +1,27 @@
+use Prim.Native.Nat.{◌≤◌, ◌-◌}
+use mathlib.Core.Path.{◌≡◌}
+use native.Mathlib.Omega.{arith}
+use Rattle.graph.specs.Working.{Peel, Busy}
+use Rattle.graph.proofs.PeelingLaws.{peel_room, offer_peel, busy_more}
+use Rattle.graph.proofs.take_first.Goals as goal
+
+pub loop-w-init : goal.loop-w-init
+loop-w-init c = (c.requires, record { counts = λ x l. absurd (omega arith) }, omega arith)
+
+pub offer-tail-requires : goal.offer-tail-requires
+offer-tail-requires c = peel_room c.loop-w.invariant.0 _
+
+pub loop-w-smaller : goal.loop-w-smaller
+loop-w-smaller c = omega (arith, c.loop-w-test.true)
+
+pub loop-w-preserved : goal.loop-w-preserved
+loop-w-preserved c =
+    let l = c in
+    let t = c.loop-w-test.true in
+    let d = c.offer-tail.ensures in
+    (offer_peel l.loop-w.invariant.0 d, busy_more l.loop-w.invariant.1 (omega (arith, t)) d, omega (arith, t))
+
+pub returns : goal.returns
+returns c =
+    let e : c.loop-w.w ≡ 512 = omega (arith, c.loop-w.invariant.2, c.loop-w-test.false) in
+    record { peel = c.loop-w.invariant.0; busy = rw e at c.loop-w.invariant.1 }

@@ -1,0 +1,25 @@
+-- `graph::tally` meets its contract: a node that is not in the set adds no step; one that is adds two. A count is at
+-- most twice the number of nodes passed, so it can be raised.
+use borrow.Author.Tests.{not-true, not-false}
+use Rattle.graph.proofs.PeelingLaws.{tally_room, raised_room, tally_out, tally_both}
+use Rattle.graph.proofs.tally.Goals as goal
+
+pub returns-then-not-alive-v : goal.returns-then-not-alive-v
+returns-then-not-alive-v c = tally_out c.requires.tally c.if-not-alive-v.true
+
+pub raise-requires : goal.raise-requires
+raise-requires c = let s = c in (s.requires.tally.size, tally_room s.requires.tally s.requires.tables.1 _)
+
+pub raise-requires-2 : goal.raise-requires-2
+raise-requires-2 c =
+    let r = c.raise.ensures in
+    let s = c in
+    (r.same, raised_room _ s.requires.tally s.requires.tables.1 r _)
+
+pub returns : goal.returns
+returns c =
+    let o = c in
+    let s = o in
+    tally_both s.requires.tally o.if-not-alive-v.false o.one-a.ensures o.other-b.ensures
+    c.raise.ensures
+    c.raise-2.ensures

@@ -1,0 +1,57 @@
+-- `routes::jump::jumps` meets its contract: the pair's refusal is passed on, and past it the pair is good, so that `by` may be
+-- asked in the order of either route.
+use mathlib.Core.Path.{◌≡◌, sym, ◌∙◌}
+use mathlib.Core.Bool.{true}
+use mathlib.Core.List.{List}
+use Prim.Native.Nat.{ℕ}
+use borrow.Author.Tests.{not-true, not-false}
+use mir.Syntax.{w32}
+use mir.ValLaws.{to_z-of_z}
+use Rattle.house.specs.Numbers.{entries}
+use Rattle.routes.specs.Jumps.{has_jump}
+use Rattle.routes.specs.Replies.{Judges}
+use Rattle.routes.specs.declared.pair.Judged.TheVariants.{Sound}
+use Rattle.routes.proofs.JumpLaws.{jumps_judged, jumps_none, jumps_by, judges_good, has_jump_swap}
+use Rattle.routes.proofs.RuleLaws.{good_swap}
+use Rattle.routes.proofs.jump.jumps.Goals as goal
+
+-- past both tests: the pair is sound, and the node has jumps
+pub record Past (old new : List ℕ) (v : ℕ) : Type 0 where
+  pub is-sound : Judges old new Sound
+  pub has : has_jump (entries old) (entries new) v ≡ true
+
+pub returns-in-Faulty : goal.returns-in-Faulty
+returns-in-Faulty c = jumps_judged (rw c.judged.given.1 at c.judge-judged.ensures)
+
+pub returns-then-not-has : goal.returns-then-not-has
+returns-then-not-has c =
+    jumps_none (rw c.enum_told.given.1 at c.judge-judged.ensures)
+    (sym c.has.ensures ∙ not-true _ c.if-not-has.true)
+
+pub by-requires : goal.by-requires
+by-requires c =
+    let past : Past c.args.old.now c.args.new.now c.args.node = record {
+      is-sound = rw c.enum_told.given.1 at c.judge-judged.ensures;
+      has = sym c.has.ensures ∙ not-false _ c.if-not-has.false;
+    } in
+    (judges_good past.is-sound, past.has)
+
+pub by-requires-2 : goal.by-requires-2
+by-requires-2 c =
+    let past : Past c.args.old.now c.args.new.now c.args.node = record {
+      is-sound = rw c.enum_told.given.1 at c.judge-judged.ensures;
+      has = sym c.has.ensures ∙ not-false _ c.if-not-has.false;
+    } in
+    let p = past in
+    (good_swap (judges_good p.is-sound), sym (has_jump_swap (judges_good p.is-sound) _) ∙ p.has)
+
+pub returns : goal.returns
+returns c =
+    let past : Past c.args.old.now c.args.new.now c.args.node = record {
+      is-sound = rw c.enum_told.given.1 at c.judge-judged.ensures;
+      has = sym c.has.ensures ∙ not-false _ c.if-not-has.false;
+    } in
+    let p = past in
+    rw
+    (to_z-of_z w32 c.by.result (record { sfits = c.by.type-inv }), to_z-of_z w32 c.by-2.result (record { sfits = c.by-2.type-inv }))
+    (jumps_by p.is-sound p.has c.by.ensures c.by-2.ensures)

@@ -1,0 +1,83 @@
+-- `routes::walk::walk` meets its contract: each return is one of the replies, from what the parts called before it ensure.
+use mathlib.Core.Path.{◌∙◌}
+use Rattle.routes.proofs.WalkPartsLaws.{
+  judged_first,
+  judged_clear,
+  Tabled,
+  below,
+  reply_unfit,
+  reply_judged,
+  reply_stray,
+  reply_walked,
+}
+use Rattle.routes.proofs.walk.walk.Goals as goal
+
+pub returns-then-set-ne64 : goal.returns-then-set-ne64
+returns-then-set-ne64 c = reply_unfit c.if-set-ne64.true
+
+pub returns-in-Faulty : goal.returns-in-Faulty
+returns-in-Faulty c =
+    reply_judged c.if-set-ne64.false
+    (judged_first c.r.given.1 c.judge.ensures)
+
+pub returns-then-i-lt512 : goal.returns-then-i-lt512
+returns-then-i-lt512 c =
+    let tabled : Tabled
+    (start c).args.old.now
+    (start c).args.new.now
+    (start c).args.set.now
+    c.set_of-changed.result
+    c.next_values-was.result
+    c.next_values-will.result
+    c.due_nodes-due.result = record {
+      eight_long = c.if-set-ne64.false;
+      clear = judged_clear c.enum_told.given.1 c.judge.ensures;
+      read = c.set_of-changed.ensures;
+      old_values = c.next_values-was.ensures;
+      new_values = c.next_values-will.ensures;
+      differ = c.due_nodes-due.ensures;
+    } in
+    reply_stray tabled c.stray-i.ensures c.if-i-lt512.true
+
+pub go-requires : goal.go-requires
+go-requires c =
+    let tabled : Tabled
+    (start c).args.old.now
+    (start c).args.new.now
+    (start c).args.set.now
+    c.set_of-changed.result
+    c.next_values-was.result
+    c.next_values-will.result
+    c.due_nodes-due.result = record {
+      eight_long = c.if-set-ne64.false;
+      clear = judged_clear c.enum_told.given.1 c.judge.ensures;
+      read = c.set_of-changed.ensures;
+      old_values = c.next_values-was.ensures;
+      new_values = c.next_values-will.ensures;
+      differ = c.due_nodes-due.ensures;
+    } in
+    below tabled
+    (c.wide.ensures ∙ c.entry.ensures)
+
+pub returns : goal.returns
+returns c =
+    let tabled : Tabled
+    (start c).args.old.now
+    (start c).args.new.now
+    (start c).args.set.now
+    c.set_of-changed.result
+    c.next_values-was.result
+    c.next_values-will.result
+    c.due_nodes-due.result = record {
+      eight_long = c.if-set-ne64.false;
+      clear = judged_clear c.enum_told.given.1 c.judge.ensures;
+      read = c.set_of-changed.ensures;
+      old_values = c.next_values-was.ensures;
+      new_values = c.next_values-will.ensures;
+      differ = c.due_nodes-due.ensures;
+    } in
+    reply_walked tabled
+    c.stray-i.ensures
+    c.if-i-lt512.false
+    (c.wide.ensures ∙ c.entry.ensures)
+    c.go.ensures
