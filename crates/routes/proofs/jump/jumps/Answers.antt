@@ -4,7 +4,6 @@ use mathlib.Core.Path.{◌≡◌, sym, ◌∙◌}
 use mathlib.Core.Bool.{true}
 use mathlib.Core.List.{List}
 use Prim.Native.Nat.{ℕ}
-use borrow.Author.Tests.{not-true, not-false}
 use mir.Syntax.{w32}
 use mir.ValLaws.{to_z-of_z}
 use Rattle.house.specs.Numbers.{entries}
@@ -21,37 +20,37 @@ pub record Past (old new : List ℕ) (v : ℕ) : Type 0 where
   pub has : has_jump (entries old) (entries new) v ≡ true
 
 pub returns-in-Faulty : goal.returns-in-Faulty
-returns-in-Faulty c = jumps_judged (rw c.judged.given.1 at c.judge-judged.ensures)
+returns-in-Faulty c = jumps_judged c.in-Faulty.ensures
 
 pub returns-then-not-has : goal.returns-then-not-has
 returns-then-not-has c =
-    jumps_none (rw c.enum_told.given.1 at c.judge-judged.ensures)
-    (sym c.has.ensures ∙ not-true _ c.if-not-has.true)
+    jumps_none c.in_default.ensures (sym c.has.ensures ∙ c.if-not-has.true)
 
 pub by-requires : goal.by-requires
 by-requires c =
     let past : Past c.args.old.now c.args.new.now c.args.node = record {
-      is-sound = rw c.enum_told.given.1 at c.judge-judged.ensures;
-      has = sym c.has.ensures ∙ not-false _ c.if-not-has.false;
+      is-sound = c.in_default.ensures;
+      has = sym c.has.ensures ∙ c.if-not-has.false;
     } in
-    (judges_good past.is-sound, past.has)
+    record { good = judges_good past.is-sound; node_value = past.has }
 
 pub by-requires-2 : goal.by-requires-2
 by-requires-2 c =
     let past : Past c.args.old.now c.args.new.now c.args.node = record {
-      is-sound = rw c.enum_told.given.1 at c.judge-judged.ensures;
-      has = sym c.has.ensures ∙ not-false _ c.if-not-has.false;
+      is-sound = c.in_default.ensures;
+      has = sym c.has.ensures ∙ c.if-not-has.false;
     } in
-    let p = past in
-    (good_swap (judges_good p.is-sound), sym (has_jump_swap (judges_good p.is-sound) _) ∙ p.has)
+    record {
+      good = good_swap (judges_good past.is-sound);
+      node_value = sym (has_jump_swap (judges_good past.is-sound) _) ∙ past.has;
+    }
 
 pub returns : goal.returns
 returns c =
     let past : Past c.args.old.now c.args.new.now c.args.node = record {
-      is-sound = rw c.enum_told.given.1 at c.judge-judged.ensures;
-      has = sym c.has.ensures ∙ not-false _ c.if-not-has.false;
+      is-sound = c.in_default.ensures;
+      has = sym c.has.ensures ∙ c.if-not-has.false;
     } in
-    let p = past in
     rw
-    (to_z-of_z w32 c.by.result (record { sfits = c.by.type-inv }), to_z-of_z w32 c.by-2.result (record { sfits = c.by-2.type-inv }))
-    (jumps_by p.is-sound p.has c.by.ensures c.by-2.ensures)
+    (to_z-of_z w32 c.by.result (record { sfits = c.by.type_inv }), to_z-of_z w32 c.by-2.result (record { sfits = c.by-2.type_inv }))
+    (jumps_by past.is-sound past.has c.by.ensures c.by-2.ensures)

@@ -1,16 +1,15 @@
-use Prim.Native.Nat.{◌-◌, ◌/◌}
 use mathlib.Core.Path.{◌≡◌, sym, ◌∙◌}
 use native.Mathlib.Numerals.{add-one}
 use native.Mathlib.Omega.{arith}
-use lib.ListN.{length, get_or, drop}
+use lib.ListN.{get_or}
 use Rattle.house.specs.Numbers.{entries}
 use Rattle.house.proofs.NumberLaws.{length_entries}
-use Rattle.routes.specs.Jumps.{first_on, position}
+use Rattle.routes.specs.Jumps.{position}
 use Rattle.routes.proofs.JumpLaws.{first_on_here, first_on_past, first_on_end, position_on, position_off}
 use Rattle.routes.proofs.jump.meet.Goals as goal
 
 pub returns-then-p-n : goal.returns-then-p-n
-returns-then-p-n c =
+returns-then-p-n c w e =
     let a = c.args in
     let p = entries a.other.now in
     let q = entries a.along.now in
@@ -30,7 +29,7 @@ loop-i-preserved c =
     rw (add-one i) (sym f ∙ c.loop-i.invariant)
 
 pub returns : goal.returns
-returns c =
+returns c w e =
     let a = c.args in
     let f = first_on_end (entries a.other.now) (entries a.along.now) c.loop-i.i (omega (arith, length_entries a.along.now)) in
     cc

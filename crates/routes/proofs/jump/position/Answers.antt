@@ -1,9 +1,6 @@
-use Prim.Native.Nat.{ℕ, ◌≤◌, ◌<◌, ◌-◌, ◌/◌}
-use mathlib.Core.Path.{◌≡◌, sym, ◌∙◌}
+use mathlib.Core.Path.{sym, ◌∙◌}
 use native.Mathlib.Omega.{arith}
 use borrow.Author.Count.{below_more}
-use lib.ListN.{length, get_or}
-use Rattle.house.specs.Numbers.{entries}
 use Rattle.house.proofs.NumberLaws.{length_entries}
 use Rattle.routes.proofs.JumpLaws.{position_is}
 use Rattle.routes.proofs.jump.position.Goals as goal

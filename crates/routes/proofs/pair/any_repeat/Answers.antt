@@ -1,11 +1,12 @@
-use Prim.Native.Nat.{ℕ, ◌-◌, ◌<◌}
+-- In an answer `at_of` is the loop's `i`, and `same` and `small` say: the id read is the route's id at `i`, and below 512.
+use Prim.Native.Nat.{ℕ, ◌<◌}
 use mathlib.Core.Path.{◌≡◌, ◌∙◌}
 use native.Mathlib.Omega.{arith}
 use mathlib.Core.List.{List}
 use lib.ListN.{length, get_or}
 use Rattle.house.specs.Numbers.{entries}
 use Rattle.house.proofs.NumberLaws.{length_entries}
-use Rattle.routes.proofs.TestLaws.{Marked, marked_none, marked_more, marked_here, marked_end}
+use Rattle.routes.proofs.TestLaws.{marked_none, marked_more, marked_here, marked_end}
 use Rattle.routes.proofs.pair.any_repeat.Goals as goal
 
 pub loop-i-init : goal.loop-i-init
@@ -44,8 +45,7 @@ loop-i-preserved c =
     let inside : at_of < length ids_of = omega (arith, length_entries c.args.route.now) in
     let same : c.wide-v.result ≡ get_or ids_of at_of 0 = c.wide-v.ensures ∙ c.entry.ensures in
     let small : c.wide-v.result < 512 = omega (arith, same, c.requires.low at_of inside) in
-    let a = c in
-    marked_more a.loop-i.invariant inside same small
+    marked_more c.loop-i.invariant inside same small
     (λ e. let z : ◌≡◌ {A = ℕ} 0 1 = cc c.if-met-v.false in omega arith)
 
 pub returns : goal.returns

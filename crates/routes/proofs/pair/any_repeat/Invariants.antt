@@ -1,14 +1,9 @@
 -- `pair::any_repeat` meets its contract. The loop's invariant, `Marked`: the marks are those of the ids before `i`, and none
 -- of these is a repeat. So an id that is marked already is one, and at the end there is none. The measure is what is left of
 -- the route's length.
-use Prim.Native.Nat.{ℕ, ◌-◌, ◌<◌}
-use mathlib.Core.Path.{◌≡◌, ◌∙◌}
-use native.Mathlib.Omega.{arith}
-use mathlib.Core.List.{List}
-use lib.ListN.{length, get_or}
+use Prim.Native.Nat.{◌-◌}
 use Rattle.house.specs.Numbers.{entries}
-use Rattle.house.proofs.NumberLaws.{length_entries}
-use Rattle.routes.proofs.TestLaws.{Marked, marked_none, marked_more, marked_here, marked_end}
+use Rattle.routes.proofs.TestLaws.{Marked}
 use Rattle.routes.proofs.pair.any_repeat.Given as goal
 
 abbrev pub invariant-loop-i : goal.invariant-loop-i

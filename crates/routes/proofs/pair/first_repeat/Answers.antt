@@ -1,11 +1,7 @@
-use Prim.Native.Nat.{◌-◌}
-use mathlib.Core.Path.{◌≡◌, ◌∙◌, sym}
+use mathlib.Core.Path.{◌∙◌, sym}
 use native.Mathlib.Omega.{arith}
-use lib.ListN.{length, get_or}
-use Rattle.house.specs.Numbers.{entries}
 use Rattle.house.proofs.NumberLaws.{length_entries}
-use Rattle.routes.specs.Routes.{Repeat}
-use Rattle.routes.proofs.TestLaws.{Unmet, unmet_none, unmet_more, unmet_here, unmet_end}
+use Rattle.routes.proofs.TestLaws.{unmet_none, unmet_more, unmet_here, unmet_end}
 use Rattle.routes.proofs.pair.first_repeat.Goals as goal
 
 pub search-init : goal.search-init

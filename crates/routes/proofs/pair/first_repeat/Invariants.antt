@@ -2,13 +2,11 @@
 -- before `j` is the id at `i`. So where the search is left by its label, the id at `i` stands at `j` already, and where the
 -- inner loop ends it isn't a repeat. The measures are what is left of the length, and of `i`.
 use Prim.Native.Nat.{◌-◌}
-use mathlib.Core.Path.{◌≡◌, ◌∙◌, sym}
-use native.Mathlib.Omega.{arith}
+use mathlib.Core.Path.{◌≡◌}
 use lib.ListN.{length, get_or}
 use Rattle.house.specs.Numbers.{entries}
-use Rattle.house.proofs.NumberLaws.{length_entries}
 use Rattle.routes.specs.Routes.{Repeat}
-use Rattle.routes.proofs.TestLaws.{Unmet, unmet_none, unmet_more, unmet_here, unmet_end}
+use Rattle.routes.proofs.TestLaws.{Unmet}
 use Rattle.routes.proofs.pair.first_repeat.Given as goal
 
 abbrev pub invariant-loop-j : goal.invariant-loop-j

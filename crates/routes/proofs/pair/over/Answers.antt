@@ -1,9 +1,6 @@
-use Prim.Native.Nat.{◌-◌, ◌<◌}
 use native.Mathlib.Omega.{arith}
-use lib.ListN.{length, get_or}
-use Rattle.house.specs.Numbers.{entries}
 use Rattle.house.proofs.NumberLaws.{length_entries}
-use Rattle.routes.proofs.TestLaws.{Unmet, unmet_none, unmet_more, unmet_here, unmet_end}
+use Rattle.routes.proofs.TestLaws.{unmet_none, unmet_more, unmet_here, unmet_end}
 use Rattle.routes.proofs.pair.over.Goals as goal
 
 pub loop-i-init : goal.loop-i-init

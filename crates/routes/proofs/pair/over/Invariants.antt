@@ -1,11 +1,9 @@
 -- `pair::over` meets its contract. The loop's invariant: no id before `i` is over 511, and `i` is at most the route's length.
 -- The measure is what is left of the length.
 use Prim.Native.Nat.{◌-◌, ◌<◌}
-use native.Mathlib.Omega.{arith}
 use lib.ListN.{length, get_or}
 use Rattle.house.specs.Numbers.{entries}
-use Rattle.house.proofs.NumberLaws.{length_entries}
-use Rattle.routes.proofs.TestLaws.{Unmet, unmet_none, unmet_more, unmet_here, unmet_end}
+use Rattle.routes.proofs.TestLaws.{Unmet}
 use Rattle.routes.proofs.pair.over.Given as goal
 
 abbrev pub invariant-loop-i : goal.invariant-loop-i

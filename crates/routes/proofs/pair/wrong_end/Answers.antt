@@ -28,6 +28,7 @@ overflow_sub-new c = omega (arith, length_entries c.args.new.now)
 
 pub returns-then-entry-2 : goal.returns-then-entry-2
 returns-then-entry-2 c =
+    -- past the first test the first ids are the same
     let firsts : source (entries c.args.old.now)
     ≡ source (entries c.args.new.now) = sym c.entry.ensures ∙ c.if-entry.false ∙ c.entry-2.ensures in
     at_new (ends_old firsts)
@@ -36,6 +37,7 @@ returns-then-entry-2 c =
 
 pub returns : goal.returns
 returns c =
+    -- past the first test the first ids are the same
     let firsts : source (entries c.args.old.now)
     ≡ source (entries c.args.new.now) = sym c.entry.ensures ∙ c.if-entry.false ∙ c.entry-2.ensures in
     at_none (ends_old firsts)

@@ -1,7 +1,6 @@
-use Prim.Native.Nat.{ℕ, ◌+◌, ◌-◌, ◌<◌, ◌≤◌}
+use Prim.Native.Nat.{ℕ, ◌+◌, ◌<◌}
 use native.Mathlib.Omega.{arith}
 use mathlib.Core.Path.{◌≡◌, refl, sym, ◌∙◌}
-use mathlib.Core.Logic.{⊎_elim}
 use mathlib.Core.Bool.{Bool, true, false, not, cond}
 use mathlib.Core.List.{List}
 use native.Mathlib.Nat.{add-zero}
@@ -10,6 +9,7 @@ use lib.ListN.{length, get_or}
 use borrow.Author.Tests.{eq-eqb, ne_eqb}
 use Rattle.routes.specs.Rules.{apart, tally}
 use Rattle.routes.proofs.RuleLaws.{apart_read, tally_add, tally_most}
+use Rattle.routes.proofs.rule.due_count.Goals.{then-a-v, else-a-v}
 use Rattle.routes.proofs.rule.due_count.Goals as goal
 
 -- one node more: counted where the two tables differ there
@@ -36,10 +36,10 @@ loop-v-preserved c =
     let a = c.args in
     let more = counted a.old.now a.new.now k.v k.count in (
       omega arith,
-      ⊎_elim
-          (λ w. w.1 ∙ more false k.invariant.1 (omega arith) (omega arith) (ne_eqb _ _ w.0.taken))
-          (λ w. w.1 ∙ sym (add-zero _) ∙ more true k.invariant.1 (omega arith) (omega arith) (eq-eqb _ _ w.0.left))
-          c.if-a-v.branch,
+      elim c.if-a-v.branch [
+        | then-a-v w ↦ w.count-is ∙ more false k.invariant.1 (omega arith) (omega arith) (ne_eqb _ _ w.if-a-v.true)
+        | else-a-v w ↦ w.count-is ∙ sym (add-zero _) ∙ more true k.invariant.1 (omega arith) (omega arith) (eq-eqb _ _ w.if-a-v.false)
+      ],
     )
 
 pub returns : goal.returns

@@ -1,17 +1,8 @@
 -- `routes::rule::due_count` meets its contract. The loop's invariant: the count is that of the nodes below v. The measure is what
 -- is left of 512.
-use Prim.Native.Nat.{ℕ, ◌+◌, ◌-◌, ◌<◌, ◌≤◌}
-use native.Mathlib.Omega.{arith}
-use mathlib.Core.Path.{◌≡◌, refl, sym, ◌∙◌}
-use mathlib.Core.Logic.{⊎_elim}
-use mathlib.Core.Bool.{Bool, true, false, not, cond}
-use mathlib.Core.List.{List}
-use native.Mathlib.Nat.{add-zero}
-use lib.Dec.{eqb}
-use lib.ListN.{length, get_or}
-use borrow.Author.Tests.{eq-eqb, ne_eqb}
+use Prim.Native.Nat.{◌-◌, ◌≤◌}
+use mathlib.Core.Path.{◌≡◌}
 use Rattle.routes.specs.Rules.{apart, tally}
-use Rattle.routes.proofs.RuleLaws.{apart_read, tally_add, tally_most}
 use Rattle.routes.proofs.rule.due_count.Given as goal
 
 abbrev pub invariant-loop-v : goal.invariant-loop-v

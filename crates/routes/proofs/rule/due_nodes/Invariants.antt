@@ -1,17 +1,11 @@
 -- `routes::rule::due_nodes` meets its contract. The loop's invariant: the marks below v are right. The measure is what is left of
 -- 512.
-use Prim.Native.Nat.{ℕ, ◌+◌, ◌-◌, ◌<◌, ◌≤◌}
-use native.Mathlib.Nat.{not-suc-le-zero}
-use native.Mathlib.Decide.{ℕ_discrete}
-use native.Mathlib.Omega.{arith}
-use mathlib.Core.Path.{◌≡◌, refl, sym, ◌∙◌}
-use mathlib.Core.Bool.{Bool, false, not}
+use Prim.Native.Nat.{ℕ, ◌-◌, ◌<◌, ◌≤◌}
+use mathlib.Core.Path.{◌≡◌}
+use mathlib.Core.Bool.{Bool, false}
 use mathlib.Core.List.{List}
-use lib.Dec.{eqb}
-use lib.ListN.{length, get_or, set, length-set}
-use lib.Seq.{get_or-set_same, get_or-set_other}
+use lib.ListN.{length, get_or}
 use Rattle.routes.specs.Rules.{apart}
-use Rattle.routes.proofs.RuleLaws.{apart_read}
 use Rattle.routes.proofs.rule.due_nodes.Given as goal
 
 pub record Marked (a b : List ℕ) (m : List Bool) (n : ℕ) : Type 0 where

@@ -1,15 +1,11 @@
 -- `routes::rule::next_values` meets its contract. The loop's invariant: the table holds the next values on the entries from i
 -- on, and `after` is the first of these, or 513 where there are none. The measure is i.
-use Prim.Native.Nat.{ℕ, suc, ◌-◌, ◌<◌, ◌≤◌}
-use native.Mathlib.Omega.{arith}
-use mathlib.Core.Path.{◌≡◌, sym}
-use mathlib.Core.List.{List, [], ◌∷◌}
+use Prim.Native.Nat.{ℕ, ◌≤◌}
+use mathlib.Core.Path.{◌≡◌}
+use mathlib.Core.List.{List}
 use lib.ListN.{length, get_or, drop}
-use lib.Seq.{drop-cons, drop-length}
 use Rattle.house.specs.Numbers.{entries}
-use Rattle.house.proofs.NumberLaws.{length_entries}
 use Rattle.routes.specs.Rules.{Values}
-use Rattle.routes.proofs.RuleLaws.{values_nil, values_store, values_skip}
 use Rattle.routes.proofs.rule.next_values.Given as goal
 
 pub record Filled (l t : List ℕ) (after i : ℕ) : Type 0 where

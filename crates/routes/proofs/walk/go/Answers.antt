@@ -1,8 +1,4 @@
-use borrow.Author.Tests.{not-true, not-false}
-use lib.ListN.{set}
-use Rattle.house.specs.Sets.{has}
-use Rattle.routes.specs.WalkParts.{next_in}
-use Rattle.routes.proofs.WalkPartsLaws.{Walking, falses, falses_less, begins, arrives, drops, loops, onward}
+use Rattle.routes.proofs.WalkPartsLaws.{falses_less, begins, arrives, drops, loops, onward}
 use borrow.Author.Rules.{rules}
 use Rattle.routes.proofs.walk.go.Goals as goal
 
@@ -18,14 +14,14 @@ returns-then-to-ge512 c =
     c.next_in-to.ensures c.if-to-eq513.false c.if-to-ge512.true
 
 pub loop-seen-smaller : goal.loop-seen-smaller
-loop-seen-smaller c = falses_less _ _ (search rules) (not-true _ c.loop-seen-test.true)
+loop-seen-smaller c = falses_less _ _ (search rules) c.loop-seen-test.true
 
 pub loop-seen-preserved : goal.loop-seen-preserved
 loop-seen-preserved c =
     onward c.loop-seen.invariant
     c.next_in-to.ensures
     c.if-to-ge512.false
-    (not-true _ c.loop-seen-test.true)
+    c.loop-seen-test.true
 
 pub returns : goal.returns
-returns c = loops c.loop-seen.invariant (not-false _ c.loop-seen-test.false)
+returns c = loops c.loop-seen.invariant c.loop-seen-test.false

@@ -1,11 +1,9 @@
 -- `routes::walk::go` meets its contract. The loop's invariant is `Walking`: the walk stands at `at` after `hops` hops, `seen`
 -- marks exactly the nodes come to before, none of those was come to twice, and hops and unmarked nodes are 512 together. The
 -- measure is how many nodes are unmarked.
-use borrow.Author.Tests.{not-true, not-false}
-use lib.ListN.{set}
 use Rattle.house.specs.Sets.{has}
 use Rattle.routes.specs.WalkParts.{next_in}
-use Rattle.routes.proofs.WalkPartsLaws.{Walking, falses, falses_less, begins, arrives, drops, loops, onward}
+use Rattle.routes.proofs.WalkPartsLaws.{Walking, falses}
 use Rattle.routes.proofs.walk.go.Given as goal
 
 abbrev pub invariant-loop-seen : goal.invariant-loop-seen

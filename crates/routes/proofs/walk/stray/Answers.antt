@@ -1,12 +1,9 @@
-use Prim.Native.Nat.{ℕ, ◌<◌, ◌≤◌, ◌-◌}
 use mathlib.Core.Path.{sym, ◌∙◌}
-use mathlib.Core.Logic.{⊎_elim}
 use native.Mathlib.Omega.{arith}
 use borrow.Author.Count.{below_none, below_more}
-use borrow.Author.Tests.{not-true, not-false}
-use Rattle.routes.specs.WalkParts.{Stray}
 use Rattle.routes.proofs.WalkPartsLaws.{not_both}
 use borrow.Author.Rules.{rules}
+use Rattle.routes.proofs.walk.stray.Goals.{then-member+else-not-due-i, else-member}
 use Rattle.routes.proofs.walk.stray.Goals as goal
 
 pub loop-i-init : goal.loop-i-init
@@ -19,7 +16,7 @@ returns-then-not-due-i c =
       none_before = c.loop-i.invariant.1;
       found = λ h. record {
         member = sym c.member.ensures ∙ c.if-member.true;
-        unmarked = not-true _ c.if-not-due-i.true;
+        unmarked = c.if-not-due-i.true;
       };
     }
 
@@ -27,9 +24,10 @@ pub loop-i-preserved : goal.loop-i-preserved
 loop-i-preserved c = (
   search rules,
   below_more _ _ c.loop-i.invariant.1 (λ x.
-      ⊎_elim (λ w. not_both x.unmarked (not-false _ w.2.left))
-      (λ w. not_both (sym c.member.ensures ∙ w.left) x.member)
-      c.if-member.branch),
+      elim c.if-member.branch [
+        | then-member+else-not-due-i w ↦ not_both x.unmarked w.if-not-due-i.false
+        | else-member w ↦ not_both (sym c.member.ensures ∙ w.if-member.false) x.member
+      ]),
 )
 
 pub returns : goal.returns

@@ -1,13 +1,7 @@
 -- `routes::walk::stray` meets its contract. The loop's invariant: `i` is at most 512, and no id below it is in the set and
 -- unmarked. The measure is what is left of the 512 ids.
 use Prim.Native.Nat.{ℕ, ◌<◌, ◌≤◌, ◌-◌}
-use mathlib.Core.Path.{sym, ◌∙◌}
-use mathlib.Core.Logic.{⊎_elim}
-use native.Mathlib.Omega.{arith}
-use borrow.Author.Count.{below_none, below_more}
-use borrow.Author.Tests.{not-true, not-false}
 use Rattle.routes.specs.WalkParts.{Stray}
-use Rattle.routes.proofs.WalkPartsLaws.{not_both}
 use Rattle.routes.proofs.walk.stray.Given as goal
 
 abbrev pub invariant-loop-i : goal.invariant-loop-i

@@ -1,5 +1,5 @@
 -- `routes::walk::walk` meets its contract: each return is one of the replies, from what the parts called before it ensure.
-use mathlib.Core.Path.{◌∙◌}
+use mathlib.Core.Path.{refl, ◌∙◌}
 use Rattle.routes.proofs.WalkPartsLaws.{
   judged_first,
   judged_clear,
@@ -18,20 +18,21 @@ returns-then-set-ne64 c = reply_unfit c.if-set-ne64.true
 pub returns-in-Faulty : goal.returns-in-Faulty
 returns-in-Faulty c =
     reply_judged c.if-set-ne64.false
-    (judged_first c.r.given.1 c.judge.ensures)
+    (judged_first refl c.in-Faulty.ensures)
 
 pub returns-then-i-lt512 : goal.returns-then-i-lt512
 returns-then-i-lt512 c =
+    -- the words, tables and marks that are read are those of a good pair and its set
     let tabled : Tabled
-    (start c).args.old.now
-    (start c).args.new.now
-    (start c).args.set.now
+    c.args.old.now
+    c.args.new.now
+    c.args.set.now
     c.set_of-changed.result
     c.next_values-was.result
     c.next_values-will.result
     c.due_nodes-due.result = record {
       eight_long = c.if-set-ne64.false;
-      clear = judged_clear c.enum_told.given.1 c.judge.ensures;
+      clear = judged_clear refl c.in_default.ensures;
       read = c.set_of-changed.ensures;
       old_values = c.next_values-was.ensures;
       new_values = c.next_values-will.ensures;
@@ -41,16 +42,17 @@ returns-then-i-lt512 c =
 
 pub go-requires : goal.go-requires
 go-requires c =
+    -- the words, tables and marks that are read are those of a good pair and its set
     let tabled : Tabled
-    (start c).args.old.now
-    (start c).args.new.now
-    (start c).args.set.now
+    c.args.old.now
+    c.args.new.now
+    c.args.set.now
     c.set_of-changed.result
     c.next_values-was.result
     c.next_values-will.result
     c.due_nodes-due.result = record {
       eight_long = c.if-set-ne64.false;
-      clear = judged_clear c.enum_told.given.1 c.judge.ensures;
+      clear = judged_clear refl c.in_default.ensures;
       read = c.set_of-changed.ensures;
       old_values = c.next_values-was.ensures;
       new_values = c.next_values-will.ensures;
@@ -61,16 +63,17 @@ go-requires c =
 
 pub returns : goal.returns
 returns c =
+    -- the words, tables and marks that are read are those of a good pair and its set
     let tabled : Tabled
-    (start c).args.old.now
-    (start c).args.new.now
-    (start c).args.set.now
+    c.args.old.now
+    c.args.new.now
+    c.args.set.now
     c.set_of-changed.result
     c.next_values-was.result
     c.next_values-will.result
     c.due_nodes-due.result = record {
       eight_long = c.if-set-ne64.false;
-      clear = judged_clear c.enum_told.given.1 c.judge.ensures;
+      clear = judged_clear refl c.in_default.ensures;
       read = c.set_of-changed.ensures;
       old_values = c.next_values-was.ensures;
       new_values = c.next_values-will.ensures;
