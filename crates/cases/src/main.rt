@@ -8,36 +8,36 @@
 ghost use Rattle.std.specs.Prelude.{◌≡◌, nat_abs};
 
 use house::Refusal;
-use libc::{STDIN_FILENO, STDOUT_FILENO};
 use routes::jump::Jumped;
 use routes::pair::Judged;
 use routes::walk::Walked;
+use std::io::Write;
 
 // Answers whole requests, until one is missing; a million at most, so that the program ends.
-fn main() {
+fn main(rt: HostRuntime) {
     let mut frame = [0u8; 2048];
     for _ in 0..1000000usize {
-        let got = io::read_full(STDIN_FILENO, &mut frame);
+        let got = streams::read_full(&mut rt.stdin(), &mut frame);
         if got < 2048 {
             return;
         }
-        answer(&frame);
+        answer(&mut rt.stdout(), &frame);
     }
 }
 
 // Answers one request.
-fn answer(frame: &[u8]) {
+fn answer<W: Write>(out: &mut W, frame: &[u8]) {
     let what = house::entry(frame, 0);
     let node = house::entry(frame, 1);
     let old = part(frame, 16, house::entry(frame, 2));
     let new = part(frame, 640, house::entry(frame, 3));
     let set = part(frame, 1264, house::entry(frame, 4));
     match what {
-        1 => judgement(old, new),
-        2 => both_jumps(old, new, node),
-        _ => one_walk(old, new, set),
+        1 => judgement(out, old, new),
+        2 => both_jumps(out, old, new, node),
+        _ => one_walk(out, old, new, set),
     }
-    say(b"\n");
+    say(out, b"\n");
 }
 
 // The `size` bytes of a request from `at`; none where it has not as many.
@@ -54,75 +54,81 @@ fn part(frame: &[u8], at: usize, size: u16) -> &[u8] {
     }
 }
 
-fn judgement(old: &[u8], new: &[u8]) {
+fn judgement<W: Write>(out: &mut W, old: &[u8], new: &[u8]) {
     let judged = routes::pair::judge(old, new);
     match judged {
-        Judged::Sound => say(b"good"),
-        Judged::Faulty(r) => refused(r),
+        Judged::Sound => say(out, b"good"),
+        Judged::Faulty(r) => refused(out, r),
     }
 }
 
-fn both_jumps(old: &[u8], new: &[u8], node: u16) {
+fn both_jumps<W: Write>(out: &mut W, old: &[u8], new: &[u8], node: u16) {
     let jumped = routes::jump::jumps(old, new, node);
     match jumped {
         Jumped::By(a, b) => {
-            say(b"jumps");
-            signed(a);
-            signed(b);
-            say(b" ");
-            letter(a);
-            letter(b);
+            say(out, b"jumps");
+            signed(out, a);
+            signed(out, b);
+            say(out, b" ");
+            letter(out, a);
+            letter(out, b);
         }
-        Jumped::NoJumps(r) => refused(r),
+        Jumped::NoJumps(r) => refused(out, r),
     }
 }
 
-fn one_walk(old: &[u8], new: &[u8], set: &[u8]) {
+fn one_walk<W: Write>(out: &mut W, old: &[u8], new: &[u8], set: &[u8]) {
     let walked = routes::walk::walk(old, new, set);
     match walked {
         Walked::Arrived(hops) => {
-            say(b"arrived");
-            number(hops);
+            say(out, b"arrived");
+            number(out, hops);
         }
         Walked::Dropped(node, hops) => {
-            say(b"dropped");
-            number(node);
-            number(hops);
+            say(out, b"dropped");
+            number(out, node);
+            number(out, hops);
         }
         Walked::Looped(node, hops) => {
-            say(b"looped");
-            number(node);
-            number(hops);
+            say(out, b"looped");
+            number(out, node);
+            number(out, hops);
         }
-        Walked::Refused(r) => refused(r),
+        Walked::Refused(r) => refused(out, r),
     }
 }
 
-fn refused(r: Refusal) {
+fn refused<W: Write>(out: &mut W, r: Refusal) {
     let told = house::tell(r);
-    say(b"NO");
-    number(told.number);
-    number(told.site);
-    number(told.place);
+    say(out, b"NO");
+    number(out, told.number);
+    number(out, told.site);
+    number(out, told.place);
 }
 
-fn say(text: &[u8]) {
-    io::write_all(STDOUT_FILENO, text);
+fn say<W: Write>(out: &mut W, text: &[u8]) {
+    let _ = out.write_all(text);
 }
 
-fn number(n: usize) {
-    say(b" ");
-    io::print_decimal(STDOUT_FILENO, n as u64);
+fn number<W: Write>(out: &mut W, n: usize) {
+    say(out, b" ");
+    decimal(out, n as u64);
+}
+
+fn decimal<W: Write>(out: &mut W, n: u64) {
+    let mut text = [0u8; 20];
+    let k = io::decimal(n, &mut text);
+    say(out, &text[..k]);
 }
 
 // A jump, with its sign where it goes backward.
-fn signed(jump: i32) {
+fn signed<W: Write>(out: &mut W, jump: i32) {
     if jump < 0 {
-        say(b" -");
+        say(out, b" -");
     } else {
-        say(b" ");
+        say(out, b" ");
     }
-    io::print_decimal(STDOUT_FILENO, size(jump));
+    decimal(out, size(jump));
 }
 
 // A jump without its sign. In 64 bits each one can be turned around.
@@ -136,7 +142,7 @@ fn size(jump: i32) -> u64
     }
 }
 
-fn letter(jump: i32) {
+fn letter<W: Write>(out: &mut W, jump: i32) {
     let text = [routes::jump::letter(jump)];
-    say(&text);
+    say(out, &text);
 }

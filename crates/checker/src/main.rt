@@ -1,12 +1,12 @@
 // Reads a plan file on standard input, no more than 4,093 bytes of it, and prints one line: OK or NO.
 #![tactic(auto)]
 
-use libc::{STDIN_FILENO, STDOUT_FILENO};
+use std::io::Write;
 
-fn main() {
+fn main(rt: HostRuntime) {
     let mut file = [0u8; 4093];
-    let size = io::read_full(STDIN_FILENO, &mut file);
+    let size = streams::read_full(&mut rt.stdin(), &mut file);
     let mut out = [0u8; 4096];
     let n = desk::checker(&file[..size], &mut out);
-    io::write_all(STDOUT_FILENO, &out[..n]);
+    let _ = rt.stdout().write_all(&out[..n]);
 }
