@@ -14,7 +14,7 @@ use Prim.Native.Nat.{ℕ, suc, ◌+◌, ◌<◌}
 use native.Mathlib.Omega.{arith}
 use mathlib.Core.Path.{◌≡◌, refl, sym, ◌∙◌, ap, subst}
 use mathlib.Core.Logic.{inl, ⊎_elim, ◌↔◌}
-use Rattle.graph.specs.Graph.{Choice, State, Respects, Step, Path, step, Around, Within, walk}
+use Rattle.graph.specs.Graph.{Choice, State, Step, Path, step, Around, Within, walk}
 pub use Rattle.graph.specs.Faults.{Possible, Drops, Loops, LoopsStrong, Misses, Past}
 use Rattle.graph.proofs.Paths.{Src, src_first, src_joins, src_maps, path_joins, path_after, path_ends, path_more}
 use Rattle.graph.proofs.Paths.{path_maps, around_maps, around_within, around_carries, within_maps}

@@ -3,7 +3,7 @@
 --   reach_one_reply      == two lists of marks that hold exactly what is reached from s are equal
 --   leads_one_reply      == two answers to whether a path leads from s to w are equal
 --   cyclic_one_reply     == two answers to whether a closed path lies within the set are equal
-use Prim.Native.Nat.{ℕ, ◌<◌}
+use Prim.Native.Nat.{ℕ}
 use native.Mathlib.Omega.{arith}
 use mathlib.Core.Path.{◌≡◌, refl, sym, ◌∙◌}
 use mathlib.Core.Bool.{Bool, true, false}

@@ -3,6 +3,7 @@
 --   body_right       == where the answer is a body, the record is right
 --   body_next, body_size == and these are the next offset and the length
 --   else_wrong       == where it is none and the file doesn't end there, the record is wrong
+--   not_body         == what is no body is one of the two other answers
 --   scan_wrong       == then going through the records ends there
 --   all_right_end    == where a round is expected at the end of the file, no record is wrong
 --   goes_on          == behind a body the next kind is expected
@@ -44,7 +45,7 @@ use Rattle.planfile.specs.declared.read.ReadReply.TheVariants.{Content, NotRead}
 use Rattle.planfile.specs.declared.read.Counts.{Counts}
 use Rattle.planfile.specs.declared.read.Scan.TheVariants.{Bodies, WrongFrom}
 use Rattle.planfile.specs.declared.record.RecordReply.{RecordReply}
-use Rattle.planfile.specs.declared.record.RecordReply.TheVariants.{Body}
+use Rattle.planfile.specs.declared.record.RecordReply.TheVariants.{Body, Wrong, End}
 use Rattle.planfile.specs.contracts.record.RecordReply.{the_type}
 use Rattle.planfile.proofs.OrderLaws.{before_wrong, before_length}
 use Rattle.planfile.proofs.RecordLaws.{Right, right, right_not, body, length_body, next_expected, expects_before, expects_same, expects_place, expects_kind}
@@ -70,6 +71,12 @@ else_wrong (ended e) t n = absurd (n e)
 else_wrong (wrong_at m w e) t n = w
 else_wrong (stands w d e g) (inl t) n = absurd (omega arith)
 else_wrong (stands w d e g) (inr t) n = absurd (omega arith)
+
+pub not_body :
+    (a : RecordReply) → ((s z n : ℕ) → a ≡ Body s z n → ⊥) → (tag_of the_type a ≡ 1) ⊎ (tag_of the_type a ≡ 2)
+not_body (Body s z n) h = absurd (h s z n refl)
+not_body (Wrong q) h = inl refl
+not_body End h = inr refl
 
 pub scan_wrong :
     {f : List ℕ} {p k : ℕ} {a : RecordReply}

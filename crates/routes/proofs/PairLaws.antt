@@ -18,7 +18,7 @@ use lib.ListN.{length, get_or}
 use Rattle.house.specs.declared.Refusal.{Refusal}
 use Rattle.house.specs.declared.Refusal.TheVariants.{Unfit, RouteLength, RouteId, RouteRepeat, EndsDiffer}
 use Rattle.house.specs.Numbers.{entries, Whole}
-use Rattle.house.specs.Refusals.{number, Before, lower, sooner, nearer, First, Clear}
+use Rattle.house.specs.Refusals.{number, Before, First, Clear}
 use Rattle.house.proofs.RefusalLaws.{before_number, first_one, first_not_clear, unfit_first}
 use Rattle.routes.specs.Routes.{
   source,

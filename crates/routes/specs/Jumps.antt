@@ -10,7 +10,7 @@
 --   has_jump o n v  == v is on both routes and isn't the destination
 --   Ranged z       == from -253 to 255 and not 0
 --   letter z       == the sign of a jump as document 001's letter: F (70) forward, B (66) backward
-use Rattle.std.specs.Prelude.{ℕ, zero, suc, ◌<◌, ◌≤◌, Bool, true, false, not, cond, ◌&&◌, List, [], ◌∷◌, length, drop, eqb, ltb, ℤ, pos, negsuc, ◌-ℤ◌}
+use Rattle.std.specs.Prelude.{ℕ, suc, ◌<◌, ◌≤◌, Bool, not, cond, ◌&&◌, List, [], ◌∷◌, length, drop, eqb, ltb, ℤ, pos, negsuc, ◌-ℤ◌}
 use Rattle.std.proofs.Math.Option.{Option, none, some}
 use Rattle.routes.specs.Routes.{destination}
 

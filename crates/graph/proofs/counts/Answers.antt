@@ -1,7 +1,5 @@
-use Prim.Native.Nat.{◌≤◌, ◌-◌}
 use mathlib.Core.Path.{◌≡◌}
 use native.Mathlib.Omega.{arith}
-use Rattle.graph.specs.Working.{Tally}
 use Rattle.graph.proofs.PeelingLaws.{tally_begins}
 use Rattle.graph.proofs.counts.Goals as goal
 

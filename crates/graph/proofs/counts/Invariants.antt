@@ -1,10 +1,7 @@
 -- `graph::counts` meets its contract. The loop's invariant: the counts are those of the steps from the nodes passed.
 -- The measure is what is left of the 512 nodes.
 use Prim.Native.Nat.{◌≤◌, ◌-◌}
-use mathlib.Core.Path.{◌≡◌}
-use native.Mathlib.Omega.{arith}
 use Rattle.graph.specs.Working.{Tally}
-use Rattle.graph.proofs.PeelingLaws.{tally_begins}
 use Rattle.graph.proofs.counts.Given as goal
 
 abbrev pub invariant-loop-v : goal.invariant-loop-v

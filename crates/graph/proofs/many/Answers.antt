@@ -1,6 +1,5 @@
-use Prim.Native.Nat.{◌≤◌, ◌-◌, ◌+◌}
+use Prim.Native.Nat.{◌+◌}
 use mathlib.Core.Path.{◌≡◌, sym, ap, ◌∙◌}
-use mathlib.Core.Logic.{⊎_elim}
 use native.Mathlib.Omega.{arith}
 use Rattle.graph.specs.Working.{among}
 use Rattle.graph.proofs.Sums.{sum_zero, among_bound, among_more, among_same}
@@ -22,8 +21,8 @@ loop-i-preserved c =
     let i = c.loop-i.invariant in
     let n : c.if-alive-i.n ≡ among (c.loop-i.i + 1) a (λ u. 1) =
     elim c.if-alive-i.branch [
-      then-alive-i w ↦ w.n-is ∙ ap (λ x. x + 1) i.0 ∙ sym (among_more v a (λ u. 1) w.if-alive-i.true)
-    | else-alive-i w ↦ w.n-is ∙ i.0 ∙ sym (among_same v a (λ u. 1) w.if-alive-i.false)
+      | then-alive-i w ↦ w.n-is ∙ ap (λ x. x + 1) i.0 ∙ sym (among_more v a (λ u. 1) w.if-alive-i.true)
+      | else-alive-i w ↦ w.n-is ∙ i.0 ∙ sym (among_same v a (λ u. 1) w.if-alive-i.false)
     ] in
     (n, omega arith)
 

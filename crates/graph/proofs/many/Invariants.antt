@@ -1,11 +1,8 @@
 -- `graph::many` meets its contract. The loop's invariant: n is the number of marks among the nodes passed. The
 -- measure is what is left of the 512 nodes.
-use Prim.Native.Nat.{◌≤◌, ◌-◌, ◌+◌}
-use mathlib.Core.Path.{◌≡◌, sym, ap, ◌∙◌}
-use mathlib.Core.Logic.{⊎_elim}
-use native.Mathlib.Omega.{arith}
+use Prim.Native.Nat.{◌≤◌, ◌-◌}
+use mathlib.Core.Path.{◌≡◌}
 use Rattle.graph.specs.Working.{among}
-use Rattle.graph.proofs.Sums.{sum_zero, among_bound, among_more, among_same}
 use Rattle.graph.proofs.many.Given as goal
 
 abbrev pub invariant-loop-i : goal.invariant-loop-i

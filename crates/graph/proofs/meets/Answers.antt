@@ -1,7 +1,6 @@
-use Prim.Native.Nat.{◌-◌, ◌<◌}
+use Prim.Native.Nat.{◌<◌}
 use native.Mathlib.Omega.{arith}
 use mathlib.Core.Path.{refl}
-use Rattle.graph.specs.Working.{Begun}
 use Rattle.graph.proofs.SearchLaws.{room_begins, room_bound, search_begins, leads_ends}
 use Rattle.graph.proofs.meets.Goals as goal
 

@@ -1,11 +1,8 @@
 -- `graph::meets` meets its contract. The loop's invariant is that of `search`: the marked numbers, among them the start, are
 -- reached, and each marked number waits in the queue from the head on or has all its next values marked. The measure is
 -- 514 less the head. What is marked is reached; when none waits, what is not marked is not.
-use Prim.Native.Nat.{◌-◌, ◌<◌}
-use native.Mathlib.Omega.{arith}
-use mathlib.Core.Path.{refl}
+use Prim.Native.Nat.{◌-◌}
 use Rattle.graph.specs.Working.{Begun}
-use Rattle.graph.proofs.SearchLaws.{room_begins, room_bound, search_begins, leads_ends}
 use Rattle.graph.proofs.meets.Given as goal
 
 abbrev pub invariant-loop-head : goal.invariant-loop-head

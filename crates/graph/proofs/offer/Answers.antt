@@ -1,7 +1,6 @@
 -- `graph::offer` meets its contract: each return is one of the ways in which a number is offered.
 use Prim.Native.Nat.{◌<◌}
 use native.Mathlib.Omega.{arith}
-use borrow.Author.Tests.{not-true, not-false}
 use Rattle.graph.specs.Working.{over, gone, busy, free}
 use Rattle.graph.proofs.offer.Goals as goal
 

@@ -2,10 +2,8 @@
 -- counts are those of the steps from all nodes but those taken off the queue; every node that remains has a count
 -- that is not 0; every closed path lies in what remains. The measure is 512 less the head. At the end each node that
 -- remains has a predecessor that remains, so nodes remain exactly if there is a closed path.
-use Prim.Native.Nat.{◌-◌, ◌<◌}
-use native.Mathlib.Omega.{arith}
+use Prim.Native.Nat.{◌-◌}
 use Rattle.graph.specs.Working.{Peeling}
-use Rattle.graph.proofs.PeelingLaws.{peel_begins, peel_bound, peel_ends}
 use Rattle.graph.proofs.peeled.Given as goal
 
 abbrev pub invariant-loop-head : goal.invariant-loop-head

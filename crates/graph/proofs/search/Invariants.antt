@@ -1,10 +1,8 @@
 -- `graph::search` meets its contract. The loop's invariant: the marked numbers, among them the start, are reached,
 -- and each marked number waits in the queue from the head on or has all its next values marked. The measure is 514
 -- less the head. When none waits, what is reached is marked.
-use Prim.Native.Nat.{◌-◌, ◌<◌}
-use native.Mathlib.Omega.{arith}
+use Prim.Native.Nat.{◌-◌}
 use Rattle.graph.specs.Working.{Begun}
-use Rattle.graph.proofs.SearchLaws.{room_begins, room_bound, search_begins, search_ends}
 use Rattle.graph.proofs.search.Given as goal
 
 abbrev pub invariant-loop-head : goal.invariant-loop-head

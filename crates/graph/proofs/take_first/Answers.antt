@@ -1,7 +1,5 @@
-use Prim.Native.Nat.{◌≤◌, ◌-◌}
 use mathlib.Core.Path.{◌≡◌}
 use native.Mathlib.Omega.{arith}
-use Rattle.graph.specs.Working.{Peel, Busy}
 use Rattle.graph.proofs.PeelingLaws.{peel_room, offer_peel, busy_more}
 use Rattle.graph.proofs.take_first.Goals as goal
 

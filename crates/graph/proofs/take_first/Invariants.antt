@@ -2,10 +2,7 @@
 -- every node passed that remains has a count that is not 0. The measure is what is left of the 512 nodes. Assumes
 -- nothing.
 use Prim.Native.Nat.{◌≤◌, ◌-◌}
-use mathlib.Core.Path.{◌≡◌}
-use native.Mathlib.Omega.{arith}
 use Rattle.graph.specs.Working.{Peel, Busy}
-use Rattle.graph.proofs.PeelingLaws.{peel_room, offer_peel, busy_more}
 use Rattle.graph.proofs.take_first.Given as goal
 
 abbrev pub invariant-loop-w : goal.invariant-loop-w

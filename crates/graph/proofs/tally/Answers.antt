@@ -1,6 +1,5 @@
 -- `graph::tally` meets its contract: a node that is not in the set adds no step; one that is adds two. A count is at
 -- most twice the number of nodes passed, so it can be raised.
-use borrow.Author.Tests.{not-true, not-false}
 use Rattle.graph.proofs.PeelingLaws.{tally_room, raised_room, tally_out, tally_both}
 use Rattle.graph.proofs.tally.Goals as goal
 

@@ -1,8 +1,4 @@
 use native.Mathlib.Omega.{arith}
-use mathlib.Core.Path.{◌≡◌}
-use mathlib.Core.Bool.{false}
-use Prim.Native.Nat.{ℕ, ◌<◌, ◌≤◌, ◌-◌}
-use Rattle.house.specs.Sets.{has}
 use Rattle.house.proofs.SetLaws.{none_more, lowest_here, lowest_none}
 use Rattle.house.proofs.lowest.Goals as goal
 

@@ -1,11 +1,9 @@
 -- `house::lowest` meets its contract. The loop's invariant: `at` is not below `from`, and no id from `from` to before `at` is in
 -- the set. The measure is how far `at` is from 512.
-use native.Mathlib.Omega.{arith}
 use mathlib.Core.Path.{◌≡◌}
 use mathlib.Core.Bool.{false}
 use Prim.Native.Nat.{ℕ, ◌<◌, ◌≤◌, ◌-◌}
 use Rattle.house.specs.Sets.{has}
-use Rattle.house.proofs.SetLaws.{none_more, lowest_here, lowest_none}
 use Rattle.house.proofs.lowest.Given as goal
 
 abbrev pub invariant-loop-at : goal.invariant-loop-at

@@ -1,5 +1,5 @@
 -- What was read so far stands at the front of `buf`, and was taken from the input.
-use Rattle.std.proofs.Common.{length, ◌-◌, ◌≤◌, take, ◌≡◌}
+use Rattle.std.proofs.Common.{length, ◌-◌, ◌≤◌, take}
 use Rattle.std.specs.Io.KnownBytes.{Consumes}
 use Rattle.streams.proofs.read_full.Given as goal
 

@@ -1,0 +1,24 @@
+-- `desk::no_line` meets its contract: the word, the refusal's three numbers, the ids of the set and a line feed, one behind the other, are
+-- the line.
+use native.Mathlib.Omega.{arith}
+use Rattle.desk.proofs.LineLaws.{put_join, line_ends}
+use Rattle.desk.proofs.ProgramLaws.{line_told}
+use Rattle.desk.proofs.no_line.Goals as goal
+
+pub returns : goal.returns
+returns c =
+    line_told c.args.r c.tell-told.ensures
+    (line_ends c.put-a.ensures
+    (put_join c.put_number-b.ensures.0
+    (put_join c.put_number-c.ensures.0 (put_join c.put_number-d.ensures.0 c.put_ids-e.ensures.0)))
+    c.put.ensures
+    (omega (
+      arith,
+      c.requires,
+      c.put-a.ensures.next,
+      c.put_number-b.ensures.1,
+      c.put_number-c.ensures.1,
+      c.put_number-d.ensures.1,
+      c.put_ids-e.ensures.1,
+      c.put.ensures.next,
+    )))
