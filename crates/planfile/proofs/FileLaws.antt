@@ -26,7 +26,7 @@ use native.Mathlib.Decide.{ℕ_discrete}
 use native.Mathlib.Omega.{arith}
 use lib.ListN.{length, take, drop, length-append, length-drop, take-append-drop}
 use lib.Seq.{drop-length, length-take-le, take-length, take-append-le, drop-append-le}
-use Rattle.house.specs.Numbers.{le, bytes, entries, encode, Whole}
+use Rattle.house.specs.Numbers.{le, entries, encode, Whole}
 use Rattle.house.proofs.NumberLaws.{
   Under,
   under_append,

@@ -7,16 +7,15 @@
 --   overlaid_more    == bytes stored behind the entries in front are more entries in front
 --   overlaid_put     == so is an entry that is put behind them
 --   overlaid_back    == and those of whole entries are these
-use Prim.Native.Nat.{ℕ, suc, ◌+◌, ◌*◌, ◌<◌, ◌≤◌}
+use Prim.Native.Nat.{ℕ, ◌+◌, ◌*◌, ◌≤◌}
 use mathlib.Core.Path.{◌≡◌, refl, sym, ap, ◌∙◌}
 use mathlib.Core.List.{List, [], ◌∷◌, ◌++◌}
-use native.Mathlib.Nat.{add-zero, zero-add}
 use native.Mathlib.Omega.{arith}
-use lib.ListN.{length, get_or, take, drop, set, length-append, length-drop}
-use lib.Seq.{sets, take_at}
+use lib.ListN.{length, drop, length-append, length-drop}
+use lib.Seq.{sets}
 use Rattle.house.specs.Numbers.{bytes, entries, encode, put_number, Whole}
 use Rattle.house.proofs.StoreLaws.{sets_append, sets_front}
-use Rattle.house.proofs.NumberLaws.{Under, length_encode, length_entries, encode_entries, put_number_in}
+use Rattle.house.proofs.NumberLaws.{Under, length_encode, length_entries, encode_entries}
 use Rattle.plans.proofs.WriteLaws.{overlaid_more as overlaid-one}
 use Rattle.plans.specs.Replies.{overlaid}
 

@@ -11,7 +11,7 @@
 --   after k              == the kind that is expected after a record of the kind k
 --   Expects f p k        == reading the file f from its front, a record of the kind k is expected at the offset p
 --   Ended f p k          == there the file may end: all of it is read, and kind 3 has come
-use Rattle.std.specs.Prelude.{ℕ, zero, suc, ◌+◌, ◌%◌, ◌<◌, ◌≤◌, ◌≡◌, List, [], ◌∷◌, ◌++◌, length, get_or, take, drop}
+use Rattle.std.specs.Prelude.{ℕ, zero, suc, ◌+◌, ◌%◌, ◌<◌, ◌≡◌, List, [], ◌∷◌, ◌++◌, length, get_or, take, drop}
 use Rattle.house.specs.Numbers.{le, bytes, encode}
 use Rattle.rounds.specs.Schedule.{sum}
 

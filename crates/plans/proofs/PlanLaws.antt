@@ -17,7 +17,7 @@
 --   fit_first, fit_clear == what an answer of `fit` says, by its variant
 --   clear_fit            == where no refusal applies the pair is good and the lent lengths are enough
 --   reply_refused, reply_given == the replies
-use Prim.Native.Nat.{ℕ, zero, suc, ◌+◌, ◌<◌, ◌≤◌}
+use Prim.Native.Nat.{ℕ, zero, suc, ◌<◌, ◌≤◌}
 use native.Mathlib.Omega.{arith}
 use native.Mathlib.Decide.{dec_lt}
 use mathlib.Core.Path.{◌≡◌, refl, sym, ap, ap₂, ◌∙◌, fun_ext}
@@ -44,19 +44,7 @@ use Rattle.routes.specs.Walk.{State}
 use Rattle.routes.proofs.RuleLaws.{value_off, change_values, tally_cong}
 use Rattle.routes.proofs.PairLaws.{judge_first_in, clear_good}
 use Rattle.rounds.specs.Tests.{Answers, sound, faulty}
-use Rattle.plans.specs.Plan.{
-  nothing,
-  together,
-  is_install,
-  is_remove,
-  is_switch,
-  installs,
-  removes,
-  keep,
-  some_round,
-  ids_of,
-  switched,
-}
+use Rattle.plans.specs.Plan.{nothing, together, is_install, is_remove, is_switch, installs, removes, keep, some_round, switched}
 use Rattle.plans.specs.Replies.{PlanFault, short_ids, short_sizes, judged, mode_over, Plans, refused, given}
 use Rattle.plans.specs.declared.plan.Planned.TheVariants.{Given, Refused}
 use Rattle.plans.specs.Working.{

@@ -22,7 +22,7 @@ use native.Mathlib.Omega.{arith}
 use native.Mathlib.Decide.{dec_lt, ℕ_discrete}
 use mathlib.Core.Path.{◌≡◌, refl, sym, ap, ◌∙◌, fun_ext}
 use mathlib.Core.Bool.{Bool, true, false, not, ◌&&◌, beq}
-use mathlib.Core.List.{List, [], ◌++◌, append_assoc}
+use mathlib.Core.List.{List, ◌++◌, append_assoc}
 use mathlib.Core.Option.{Option, none, some}
 use lib.ListN.{length, get_or, set, drop, replicate, length-set, length-replicate}
 use lib.Seq.{get_or-set_same, get_or-set_other}

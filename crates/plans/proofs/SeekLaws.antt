@@ -4,7 +4,7 @@
 --   code_is, code_other  == whether a code x is w, by the code r that was read
 --   sought_begins, sought_skips, sought_takes == the nodes sought, one node more at a time
 --   backward_begins, backward_skips, backward_takes == the switches from the route's end backward, one node more at a time
-use Prim.Native.Nat.{ℕ, suc, ◌+◌, ◌-◌, ◌<◌, ◌≤◌}
+use Prim.Native.Nat.{ℕ, suc, ◌+◌, ◌<◌, ◌≤◌}
 use native.Mathlib.Omega.{arith}
 use native.Mathlib.Numerals.{add-one}
 use native.Mathlib.Decide.{ℕ_discrete}

@@ -57,7 +57,7 @@ use Rattle.routes.specs.Rules.{rule, value, Values}
 use Rattle.routes.specs.Walk.{State, in_state, hop, place, Twice}
 use Rattle.routes.proofs.RuleLaws.{Told, nothing, handed, onward, told, rule_hop, hop_below, value_destination, handed_destination}
 use Rattle.rounds.specs.Schedule.{round_no}
-use Rattle.rounds.specs.States.{StateOf, Drops, LoopsRelaxed, LoopsStrong, Loops, Fault, a_drop, a_loop, Shows, Bad}
+use Rattle.rounds.specs.States.{StateOf, Drops, LoopsRelaxed, LoopsStrong, Fault, a_drop, a_loop, Shows, Bad}
 use Rattle.rounds.specs.Working.{Way}
 
 abbrev pub RouteStep : List ℕ → List ℕ → (ℕ → Choice) → ℕ → ℕ → Type 0

@@ -18,7 +18,7 @@ use mathlib.Core.List.{List, [], ◌∷◌, ◌++◌, append_assoc, append-nil}
 use lib.ListN.{length, get_or, take, drop, length-append, length-drop}
 use lib.Seq.{sets-eq, take-suc, take_at, drop_at, drop-drop, take_all, length-take-le}
 use Rattle.house.specs.Numbers.{bytes, put_number, encode}
-use Rattle.house.specs.Refusals.{number, Before, lower, sooner, nearer, First, Clear}
+use Rattle.house.specs.Refusals.{First, Clear}
 use Rattle.house.specs.declared.Refusal.{Refusal}
 use Rattle.house.specs.declared.Refusal.TheVariants.{Unfit}
 use Rattle.house.specs.Numbers.{entries}

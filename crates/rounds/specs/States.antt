@@ -14,7 +14,7 @@
 --   chosen ids zs t ws   == the state of round t in which, of the round, exactly the subset ws has changed
 --   Named .. t f ws      == the subset named: of all subsets of round t that show the fault f, the one without i where i is
 --                           the lowest id in which two of them differ
-use Rattle.std.specs.Prelude.{ℕ, zero, suc, ◌^◌, ◌<◌, ◌≤◌, ◌≡◌, Bool, true, false, cond, List, length, get_or, ltb, eqb}
+use Rattle.std.specs.Prelude.{ℕ, zero, suc, ◌^◌, ◌<◌, ◌≤◌, ◌≡◌, true, false, cond, List, length, get_or, ltb, eqb}
 use Rattle.std.proofs.Math.Option.{none, some}
 use Rattle.house.specs.Sets.{has}
 use Rattle.routes.specs.Routes.{source, destination}
