@@ -1,4 +1,4 @@
-//! Says where the archives lie that `rt staticlib` writes.
+//! Says where the archives lie that `tools/build` writes.
 
 fn main() {
     let root = std::env::var("CARGO_MANIFEST_DIR").expect("cargo sets it");

@@ -1,4 +1,4 @@
-//! Says where the archive of the calls lies that `rt staticlib jiwasampu` writes.
+//! Says where the archive of the calls lies that `tools/build jiwasampu` writes.
 
 fn main() {
     let root = std::env::var("CARGO_MANIFEST_DIR").expect("cargo sets it");
