@@ -4,7 +4,7 @@
 --   write_more       == one more number is written after those that are written
 --   write_all        == eight words are written
 --   judged_sound, judged_faulty == what the reply of judging the change says
---   short_first      == 1 is given where the lent bytes are too short
+--   short_first, short_refused == 1 is given where the lent bytes are too short, and they stay as they were
 --   change_first     == what judging the change refuses is refused
 --   change_clear_set, clear_set == nothing of 1 and 4 to 14 applies exactly when nothing applies to the change and the lent
 --                       bytes are long enough
@@ -25,9 +25,10 @@ use Rattle.house.specs.Numbers.{entries}
 use Rattle.house.proofs.NumberLaws.{length_bytes, length_encode, put_number_in}
 use Rattle.routes.specs.declared.pair.Judged.TheVariants.{Sound, Faulty}
 use Rattle.rounds.specs.States.{Fault, FirstBad, Named}
-use Rattle.rounds.specs.Replies.{ChangeFault, JudgesChange, sound, faulty, CheckFault, short_set, change, written, Checks, begins_faulty, shows}
+use Rattle.rounds.specs.Replies.{ChangeFault, JudgesChange, sound, faulty, CheckFault, short_set, change, written, Checks, refused, begins_faulty, shows}
 use Rattle.rounds.specs.Working.{Refuses, begins, shown}
 use Rattle.rounds.specs.declared.check.Checked.{Checked}
+use Rattle.rounds.specs.declared.check.Checked.TheVariants.{Refused}
 use Rattle.house.proofs.RefusalLaws.{unfit_first}
 
 pub encode_more : (w : ℕ) (xs : List ℕ) (x : ℕ) → encode w (xs ++ (x ∷ [])) ≡ encode w xs ++ bytes w x
@@ -97,6 +98,9 @@ judged_faulty (faulty f) = f
 module _ {old new : List ℕ} {mode : ℕ} {ids sizes set : List ℕ} where
   pub short_first : length set < 64 → First (CheckFault old new mode ids sizes set) Unfit
   short_first h = unfit_first (short_set h)
+
+  pub short_refused : length set < 64 → Checks old new mode ids sizes set (Refused Unfit) set
+  short_refused h = refused (short_first h) refl
 
   module _ (h : 64 ≤ length set) where
     into : {q : Refusal} → CheckFault old new mode ids sizes set q → ChangeFault old new mode ids sizes q

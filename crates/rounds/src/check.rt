@@ -199,6 +199,7 @@ fn check_rounds(
 // Checks anybody's schedule of a change, given as bytes, in a mode: yes, with the number of rounds and of due nodes, exactly
 // when no state of any round drops or loops; else the refusal that is given. 16 and 17 write the named subset as eight words to
 // the front of `set`; nothing else is changed.
+#[tactic(auto, using(crate::proofs::ReplyLaws::short_refused))]
 pub fn check(old: &[u8], new: &[u8], mode: u16, ids: &[u8], sizes: &[u8], set: &mut [u8]) -> Checked
     ensures { Checks old.now new.now mode ids.now sizes.now set.old result set.new }
 {

@@ -29,4 +29,4 @@ overflow_add-result c =
     omega (arith, room)
 
 pub returns : goal.returns
-returns c = free c.if-w-ge512.false c.if-not-rest-w.false (omega (arith, c.if-count-w-gt0.false))
+returns c = free c.if-w-ge512.false c.if-not-rest-w.false (omega arith)

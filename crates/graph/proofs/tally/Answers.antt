@@ -1,5 +1,6 @@
 -- `graph::tally` meets its contract: a node that is not in the set adds no step; one that is adds two. A count is at
 -- most twice the number of nodes passed, so it can be raised.
+use borrow.Author.Rules.{rules}
 use Rattle.graph.proofs.PeelingLaws.{tally_room, raised_room, tally_out, tally_both}
 use Rattle.graph.proofs.tally.Goals as goal
 
@@ -19,6 +20,6 @@ pub returns : goal.returns
 returns c =
     let o = c in
     let s = o in
-    tally_both s.requires.tally o.if-not-alive-v.false o.one-a.ensures o.other-b.ensures
+    tally_both s.requires.tally (search rules) o.one-a.ensures o.other-b.ensures
     c.raise.ensures
     c.raise-2.ensures

@@ -14,4 +14,4 @@ pub overflow_cast-n : goal.overflow_cast-n
 overflow_cast-n c = omega (arith, round_fits c.requires c.enter_all-n.ensures)
 
 pub returns : goal.returns
-returns c = wrote_some c.requires c.enter_all-n.ensures c.if-n-m.false c.put_entry.ensures
+returns c = wrote_some c.requires c.enter_all-n.ensures (λ e. omega arith) c.put_entry.ensures

@@ -1,9 +1,10 @@
 -- `plans::plan::may_join` meets its contract: each return is one of the answers of the mode.
+use native.Mathlib.Omega.{arith}
 use Rattle.plans.proofs.JoinLaws.{tried_leads, tried_strong, tried_unseen, tried_back, tried_closes, tried_seen}
 use Rattle.plans.proofs.plan.may_join.Goals as goal
 
 pub returns-then-leads : goal.returns-then-leads
-returns-then-leads c = tried_leads c.requires.choice_len c.requires.fits c.value_at-w.ensures c.if-mode-eq0.true (rw c.if-leads.true at c.leads.ensures).1
+returns-then-leads c = tried_leads c.requires.choice_len c.requires.fits c.value_at-w.ensures (omega arith) (rw c.if-leads.true at c.leads.ensures).1
 
 pub returns-then-mode-eq0 : goal.returns-then-mode-eq0
 returns-then-mode-eq0 c = tried_strong c.requires.choice_len c.requires.fits c.value_at-w.ensures c.if-mode-eq0.true (rw c.if-leads.false at c.leads.ensures)

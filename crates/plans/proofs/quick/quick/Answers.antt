@@ -1,4 +1,5 @@
 -- `plans::quick::quick` meets its contract: each return is one of the replies, from what the parts called before it ensure.
+use native.Mathlib.Omega.{arith}
 use mathlib.Core.Path.{refl}
 use Rattle.plans.proofs.PlanLaws.{fit_first, fit_clear, clear_fit}
 use Rattle.plans.proofs.QuickLaws.{quick_refused, quick_back, quick_given}
@@ -48,5 +49,5 @@ returns c =
       in_new = c.forward-others.ensures;
     })
     c.lowest_back-back.ensures
-    c.if-back-lt512.false
+    (omega arith)
     c.write_quick-done.ensures
