@@ -2,7 +2,7 @@
 --
 --   set_cases      == after a store at i a place is i and holds the new value, or is another and holds the old one
 --   mark_inside    == a marked number is below the number of marks
---   get_d_any       == inside a list no default counts
+--   get_d_any      == inside a list no default counts
 --   sum_same       == sums of the same numbers are the same
 --   sum_more       == the sum of one number more
 --   sum_zero       == the sum of no numbers
@@ -11,7 +11,7 @@
 --   sum_part       == a sum is at least each of its numbers
 --   sum_bound      == a sum of k numbers up to b is at most k times b
 --   sum_none       == a sum of nothing is 0
---   get_d_repeat    == a list of one value holds that value, with itself as default
+--   get_d_repeat   == a list of one value holds that value, with itself as default
 --   sum_found      == a sum that is not 0 has a number that is not 0
 --   sum_longer     == a longer sum is at least a shorter one
 --   among_part, among_bound == the same for a sum over marks

@@ -6,7 +6,7 @@
 --   le_take_under, le_under == the number of some bytes is below a power of 256
 --   bytes_le         == the bytes of the number of some bytes are these
 --   length_numbers, length_entries, length_words == how many numbers there are
---   get_d_numbers     == number i is the number of the w bytes from w * i
+--   get_d_numbers    == number i is the number of the w bytes from w * i
 --   get_d_entries, get_d_entries_past == entry i is byte 2 i and 256 times byte 2 i + 1; past the end it is 0
 --   le_four, get_d_words, get_d_words_past == word i is two halves of four bytes; past the end it is 0
 --   numbers_under, entries_under, words_under == how large a number can be

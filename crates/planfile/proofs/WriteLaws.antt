@@ -1,7 +1,7 @@
 -- Laws on writing: the parts of the writer, and the order of its refusals.
 --
 --   record_stored    == a head of four bytes and then the body are a record
---   up_to_fits        == the ids of the rounds up to one more are within the ids
+--   up_to_fits       == the ids of the rounds up to one more are within the ids
 --   Putting file₀ at ids sizes next from t file == the first t rounds are stored, and the next one's ids begin at the byte `from`
 --   putting_within, putting_room == the next one's ids are within the ids, and it has room
 --   putting_none, putting_more, putting_end == before the first; one more; after the last

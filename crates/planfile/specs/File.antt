@@ -3,7 +3,7 @@
 -- each, to the end.
 --
 --   record_of k body     == the record of the kind k with this body
---   round_records ids zs  == a record of kind 4 for each round
+--   round_records ids zs == a record of kind 4 for each round
 --   file_of o n mode ids zs == the plan file of two routes, a mode and a schedule
 --   Holds f o n mode ids zs == the file f holds two routes, a mode and a schedule, all of them two-byte numbers
 --   size_at f p, kind_at f p == what stands at the offset p as a record's length and kind

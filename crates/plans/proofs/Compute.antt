@@ -2,7 +2,7 @@
 -- of what holds. Assumes nothing.
 --
 --   every f l            == the test f passes for each element of l; the first that fails ends it
---   any f l             == it passes for one of them; the first that passes ends it
+--   any f l              == it passes for one of them; the first that passes ends it
 --   below k f            == it passes for each number below k
 --   and_both             == two tests in one
 --   every_on, any_on, below_at == what these tell

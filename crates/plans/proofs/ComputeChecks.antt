@@ -8,9 +8,9 @@
 --
 -- Of a mode, routes o and n, and a schedule:
 --   rounds_quiet t       == no round before t leads to a fault
---   passes_well          == the schedule passes; passes-is == what this tells
+--   passes_well          == the schedule passes; passes_is == what this tells
 --   drop_none f t        == where f is a loop, round t leads to no drop
---   bad_well f t         == round t is the first bad one, for the fault f; bad-is == what this tells
+--   bad_well f t         == round t is the first bad one, for the fault f; bad_is == what this tells
 --   cut t X x            == the choice that is as the state X below x, old at x, and that of round t above x
 --   named_well f t l     == the subset l of round t shows the fault f, and no state does that is as this one below an id of l and
 --                           has that id unchanged; named_is == what this tells

@@ -8,12 +8,12 @@
 --   tried b P R v        == v is to join and passes then, or it is to wait and does not
 --   joined r vs R        == the round so far R with the switches of vs that are on r
 --   waiting r vs         == the switches of vs that are not
---   joins_well P r vs R  == each that joins passes, and each that waits does not; joins-joining == what this tells
+--   joins_well P r vs R  == each that joins passes, and each that waits does not; joins_joining == what this tells
 --   middles P vs rs      == the sets of the rounds rs of the switches vs, after P
---   middle_well P vs rs  == each of them joins well, and they are all; middle-is == what this tells
+--   middle_well P vs rs  == each of them joins well, and they are all; middle_is == what this tells
 --   inner rs             == the rounds that have a switch
 --   rounds_of rs         == the sets of all rounds
---   plan_well rs         == the plan is the rounds rs; plan-is == what this tells
+--   plan_well rs         == the plan is the rounds rs; plan_is == what this tells
 use Prim.Native.Nat.{ℕ}
 use mathlib.Core.Path.{◌≡◌, refl}
 use mathlib.Core.Bool.{Bool, true, false, cond, ◌&&◌, ◌||◌}

@@ -5,7 +5,7 @@
 --   fit l, pair_fits o n == l is a good route; o and n are a good pair
 --   distinct_is, fit_good, pair_good == what these tell
 --   due_on               == a due node is on one of the two routes
---   before q r           == q is given rather than r; before-is == it is so wherever `Before` is
+--   before q r           == q is given rather than r; before_is == it is so wherever `Before` is
 --
 -- Of routes o and n, a mode, and a schedule:
 --   rises i              == the id at the index i is above the one before it, where both are in one round
@@ -13,9 +13,9 @@
 --   silent b             == of the refusals 8 to 14 for which the test b passes, none applies
 --   silent_none          == what this tells
 --   repeated t i, absent v == the refusals 13 and 14 apply so
---   applies r            == the refusal r, 13 or 14, applies; applies-is == what this tells
---   well_formed          == none of 8 to 14 applies; well-formed-clear == what this tells
---   given r              == of all that apply, r is the one that is given; given-first == what this tells
+--   applies r            == the refusal r, 13 or 14, applies; applies_is == what this tells
+--   well_formed          == none of 8 to 14 applies; well_formed_clear == what this tells
+--   given r              == of all that apply, r is the one that is given; given_first == what this tells
 use Prim.Native.Nat.{ℕ, zero, suc}
 use native.Mathlib.Omega.{arith}
 use mathlib.Core.Path.{◌≡◌, refl, ap}

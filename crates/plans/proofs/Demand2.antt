@@ -3,7 +3,7 @@
 --
 --   plan_passes_always   == the plan of a good pair passes
 --   demand_2             == every good pair has a plan, in each mode; it is a schedule; it passes; and it has at most two
---                           rounds more than the change has switches. (That there is no other: plan-rounds-one of OneReply.)
+--                           rounds more than the change has switches. (That there is no other: plan_rounds_one of OneReply.)
 use Prim.Native.Nat.{ℕ, ◌+◌, ◌≤◌}
 use mathlib.Core.List.{List}
 use lib.ListN.{length}

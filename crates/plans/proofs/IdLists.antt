@@ -10,7 +10,7 @@
 --   position_append    == the position on two lists joined
 --   on_append          == the ids on two lists joined
 --   Distinct l         == no id stands twice on l
---   distinct_index     == by index; index-distinct == and the other way round
+--   distinct_index     == by index; index_distinct == and the other way round
 --   distinct_append    == two lists joined, with no id on both
 --   on_reverse, distinct_reverse == the same list backward
 --   on_keep, distinct_keep == the ids kept

@@ -16,7 +16,7 @@
 --   way_next             == the next value of a node on l is on l, or is the hand-off
 --
 -- Of a pair o, n:
---   switched o n        == all switches
+--   switched o n         == all switches
 --   Kind o n v           == v is kept, an install, a remove or a switch, with its next values
 --   install_remove       == the installs of the change back are the removes
 --   keep_switches        == the switches of the plan are those of the new route, backward

@@ -1,6 +1,6 @@
 -- From rounds given as sets to the schedule that they are.
 --
---   member_at Rs t       == the set number t, from 0
+--   member_at Rs t      == the set number t, from 0
 --   earlier Rs t        == the first t sets together
 --   all Rs              == all sets together
 --   all_at, at_all      == an id is in all sets together exactly if it is in one of them, by number
@@ -9,7 +9,7 @@
 --   Filled Rs           == each of them has an id
 --   length_sizes, sizes_at, sum_sizes == the sizes are those of the sets, and their sum is the number of ids
 --   on_ids              == the ids of the schedule are those of the sets
---   first_in Rs v        == the number, from 1, of the first set that has v, and 0 where none has
+--   first_in Rs v       == the number, from 1, of the first set that has v, and 0 where none has
 --   bump t              == the number of a round with one more round in front; 0, of no round, stays
 --   round_first         == this is the number of the round of v
 --   round_member, member_round == the number of the round of v is suc t exactly if v is in the set t

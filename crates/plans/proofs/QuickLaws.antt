@@ -2,7 +2,7 @@
 --
 --   places_begins, places_more == the positions of a route's ids, one id more at a time
 --   places_off, places_on == whether a node is on the route, by its number in the table
---   last_place p w        == the position on p of a node, if there is one; 0 else
+--   last_place p w       == the position on p of a node, if there is one; 0 else
 --   positive_difference  == the sign of a difference
 --   jump_sign            == a jump is positive exactly if the node stands on p before the next meeting node
 --   Passing p q m last i == the marks of q's nodes from index i on, and the position on p of the first of these on both routes

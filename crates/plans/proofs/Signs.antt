@@ -11,7 +11,7 @@
 --   backward_returns     == any other switch returns there
 --   backward_leaps       == and where no switch is BB, leaps in the order of the new route
 --   both_return          == a switch that is BB returns in both orders
---   halves               == a switch is forward or backward; forward-only == and not both
+--   halves               == a switch is forward or backward; forward_only == and not both
 use Prim.Native.Nat.{ℕ, zero, suc, ◌+◌, ◌<◌}
 use native.Mathlib.Omega.{arith}
 use mathlib.Core.Path.{◌≡◌, refl, sym, ap, ◌∙◌}
@@ -84,9 +84,9 @@ both : (a b : Bool) → (a && b) ≡ true → (a ≡ true) × (b ≡ true)
 both true b e = (refl, e)
 both false b e = clash e refl
 
-not-false : (a : Bool) → not a ≡ true → a ≡ false
-not-false true e = sym e
-not-false false e = refl
+not_false : (a : Bool) → not a ≡ true → a ≡ false
+not_false true e = sym e
+not_false false e = refl
 
 pub switch_jumps : {o n : List ℕ} → Good o n → (v : ℕ) → switched o n v ≡ true → HasJump o n v
 switch_jumps {o} {n} g v s =
@@ -132,7 +132,7 @@ module _ {o n : List ℕ} (g : Good o n) (v : ℕ) where
   unfolding backwards
   backward_returns e =
       turn_returns (old_turn (backward_switch o n v e))
-      (not-false (positive (jump o n v)) (both (switched o n v) (not (positive (jump o n v))) e).1)
+      (not_false (positive (jump o n v)) (both (switched o n v) (not (positive (jump o n v))) e).1)
 
   pub backward_leaps : NoneBack o n → backwards o n v ≡ true → Leaps n o v
   unfolding backwards both_back

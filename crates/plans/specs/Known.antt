@@ -3,8 +3,8 @@
 --
 --   Pair                 == an old and a new route
 --   strong, relaxed      == the two modes
---   ids_in, sizes_in       == rounds, each a list of ids, as a schedule: their ids, all rounds joined, and their sizes
---   set_of l              == the ids of l as a set of eight words
+--   ids_in, sizes_in     == rounds, each a list of ids, as a schedule: their ids, all rounds joined, and their sizes
+--   set_of l             == the ids of l as a set of eight words
 --   Case                 == a case, with what it must give:
 --     plan mode p rs               the plan is the rounds rs
 --     passes mode p rs             the schedule rs passes

@@ -12,7 +12,7 @@
 --   rising R             == the ids of R, rising
 --   some_round R         == the round R, if it has an id
 --   PlanRounds mode o n Rs == Rs are the rounds of the plan
---   ids_of, sizes_of       == the rounds as a schedule: their ids, all rounds joined, and their sizes
+--   ids_of, sizes_of     == the rounds as a schedule: their ids, all rounds joined, and their sizes
 use Rattle.std.specs.Prelude.{ℕ, zero, suc, ◌≡◌, Bool, true, false, cond, ◌||◌, List, [], ◌∷◌, ◌++◌, reverse, length}
 use Rattle.routes.specs.declared.rule.Change.{Change}
 use Rattle.routes.specs.declared.rule.Change.TheVariants.{Kept, Install, Remove, Switch}

@@ -5,7 +5,7 @@
 --                         order of p; of the others none is marked
 --   signed a b m t     == the switches whose mark in m is t
 --   Back a b x y v     == v is a switch that is marked neither in x nor in y
---   four_rounds a b m   == the rounds of the quick plan, where m marks the switches that go forward
+--   four_rounds a b m  == the rounds of the quick plan, where m marks the switches that go forward
 --
 -- a and b are the tables of next values on the old and the new route.
 use Rattle.std.specs.Prelude.{ℕ, ◌<◌, ◌≤◌, ◌≡◌, Bool, true, false, ◌&&◌, List, ◌++◌, length, get_or}

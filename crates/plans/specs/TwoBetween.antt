@@ -2,9 +2,9 @@
 -- switch with a positive old-order jump in one round and the rest in a second, leaving out an empty round.
 --
 --   positive z, negative z == whether there is a jump z, and it is above 0 or below
---   forwards, backwards  == the switches with a positive old-order jump, and the rest
+--   forwards, backwards   == the switches with a positive old-order jump, and the rest
 --   both_back o n v       == v is a switch that goes backward in both orders (BB)
---   NoneBack o n         == no switch is BB
+--   NoneBack o n          == no switch is BB
 --   quick_rounds o n      == the rounds of the quick plan, in either mode
 --   TwoBetween o n ids zs == ids and zs are a schedule of the change from o to n that has all installs in a first round, if
 --                           there are any, all removes in a last round, if there are any, and the switches in at most two

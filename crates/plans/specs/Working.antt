@@ -24,8 +24,8 @@
 --
 --   code_of k           == what happens to a rule, as a number: 1 install, 2 remove, 3 switch, 0 none of these
 --   code_at a b v       == the same of the node v
---   coded a b w        == the nodes with the code w
---   Sought f c c' i    == the nodes of f below i are of the present round in c'; all others are as in c
+--   coded a b w         == the nodes with the code w
+--   Sought f c c' i     == the nodes of f below i are of the present round in c'; all others are as in c
 --   Backward a b n i left many == the first `many` are the switches of n from index i on, backward
 --
 --   Setting o n a b s  == o and n are a good pair, a and b their tables of next values, s is the source

@@ -4,9 +4,9 @@
 --
 --   RouteStep o n c      == a step by the next values on the two routes, at each node as the choice c allows
 --   Finds f mode o n c   == the path or the closed path that tells that some state that respects c shows the fault f
---   choice_in r t         == what a node of round r may use in round t: rounds before t have changed, those after have not;
+--   choice_in r t        == what a node of round r may use in round t: rounds before t have changed, those after have not;
 --                           0 is no round
---   choice_at ids zs t    == the choice of the states of round t
+--   choice_at ids zs t   == the choice of the states of round t
 --   choice_none, choice_earlier, choice_here, choice_later == what it is, by the node's round
 --   Chooses c cl         == the list cl gives each node the choice that c does
 --

@@ -5,7 +5,7 @@
 -- are switches on the two routes."
 --
 -- How the statement of `demand_3` renders it:
---   an accepted schedule           == Good o n, Schedule o n ids zs and Passes mode o n ids zs, in either mode
+--   an accepted schedule            == Good o n, Schedule o n ids zs and Passes mode o n ids zs, in either mode
 --   before, during or after a round == Stage zs t names the round, and the packet enters in any state of it (Trip's `enters`)
 --   the switches of that round change, also while the packet is moving == Trip's `changes`, in any order with its `hops`
 --   earlier rounds changed, no further round begins == each state of round t (StateOf) has it so, and `changes` keeps it

@@ -1,7 +1,7 @@
 -- Laws of schedules and of judging a change.
 --
 -- Of sizes zs:
---   up_to zs k       == the first k sizes added up
+--   up_to zs k      == the first k sizes added up
 --   up_to_none, up_to_suc, up_to_rises, up_to_all, up_to_most == of none and of one more; more sizes are more; of all, and at most
 --   Inside zs i     == how many rounds are before that of the index i, and that it lies past these and not past its own
 --   round_in        == each index below the sum is inside a round

@@ -6,7 +6,7 @@
 --   Trip .. t trail X  == a trip so far, in round t: `trail` is the switches that the packet has come to, the latest first,
 --                         and X the state that stands now
 --   Stage zs t         == t is a round of the schedule; or the schedule has no rounds, and t stands for its one state
---   on_either o n v     == the switch v is on one of the two routes
+--   on_either o n v    == the switch v is on one of the two routes
 --   Safe o n v trail X == what demand 3 promises of a packet that is at v in the state X and came to the switches `trail`
 --                         before, the latest first: as many hops as the trail is long
 --   Arrives .. trail X == the trip goes on from `trail`, by hops alone, to the destination

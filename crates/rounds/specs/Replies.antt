@@ -4,7 +4,7 @@
 --   ChangeFault .. r   == the refusal r, 1 or 4 to 14, applies to a pair of routes, a mode and a schedule
 --   JudgesChange .. a  == a is the reply of judging a pair of routes, a mode and a schedule
 --   CheckFault .. r    == the refusal r, 1 or 4 to 14, applies to the check
---   fault_of f t m      == the refusal of the fault f in round t, with a subset of m ids: 16 or 17
+--   fault_of f t m     == the refusal of the fault f in round t, with a subset of m ids: 16 or 17
 --   written ws set     == the lent bytes with the words ws at their front; what lies past them is kept
 --   Checks .. a after  == a is the reply
 use Rattle.std.specs.Prelude.{ℕ, ◌<◌, ◌≡◌, List, ◌++◌, length, drop}

@@ -2,8 +2,8 @@
 -- is a non-empty list of rising ids; each due node stands in exactly one round and no other id stands in any.
 --
 --   sum zs              == the sizes zs added up
---   round_of zs i        == the number, from 1, of the round in which the index i lies
---   round_no ids zs v    == the number of the round in which the id v stands, 0 where it stands in none
+--   round_of zs i       == the number, from 1, of the round in which the index i lies
+--   round_no ids zs v   == the number of the round in which the id v stands, 0 where it stands in none
 --   Schedule o n ids zs == ids and zs are a well-formed schedule of the change from o to n
 --   ScheduleFault o n mode ids zs r == the refusal r, 8 to 14, applies
 use Rattle.std.specs.Prelude.{ℕ, suc, ◌+◌, ◌-◌, ◌<◌, ◌≤◌, ◌≡◌, true, false, cond, List, [], ◌∷◌, length, get_or, ltb}

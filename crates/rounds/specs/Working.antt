@@ -5,13 +5,13 @@
 --   Way f mode R s        == the path or the closed path, by the steps R, that tells the fault f from s: a path to nothing; a
 --                            closed path, strong; a closed path to which a path leads, relaxed
 --   Leads f mode a b cl s == the same, by the next values of the tables a and b, as the choice cl allows
---   fault_if d             == a drop where d is true, else a loop
+--   fault_if d            == a drop where d is true, else a loop
 --   Says A r              == r is true where A holds, and false where it does not
 --   Alive mode m a        == the marks a are the nodes whose closed paths count: all in strong mode, those of m in relaxed
 --   Tells mode a b cl s k == k is the fault that the choice leads to: a drop before a loop
 --
 --   Painted l i j q cl cl' == cl' is cl with q at the ids that l has from the index i to before j
---   code_in r t q          == the number of a node of round r, where those of round t have q: 1 before t, 0 after it and for no round
+--   code_in r t q         == the number of a node of round r, where those of round t have q: 1 before t, 0 after it and for no round
 --   Coded ids zs t q cl   == the choice cl has these numbers
 --   Spans ids zs t i j    == round t is the ids from the index i to before j, and they rise
 --   Searched .. r cl      == r is the first bad round, with the index of its first id, and cl the choice of its states; or

@@ -3,18 +3,18 @@
 --   first_at_one     == there is one first number
 --   position_le, position_at, position_before == v's position is at most the length; v stands there if it is below the
 --                       length; v doesn't stand before it
---   position_first   == v's position is the first index of l where v stands; position-is == and no other number is
+--   position_first   == v's position is the first index of l where v stands; position_is == and no other number is
 --   position_index   == on a good route the position of the id at index i is i
 --   on_position, position_on, position_off == v is on l where its position is below the length, and only there
 --   HasJump o n v    == what `has_jump` says, by its three parts
---   has_jump_known, jump_has == from the test to its parts and back; has-jump-of == the test from its parts' tests
+--   has_jump_known, jump_has == from the test to its parts and back; has_jump_of == the test from its parts' tests
 --   has_swap, has_jump_swap == the routes of a good pair may be exchanged in both
 --   first_on_past, first_on_here, first_on_end == the first shared id from index i on: passing i, at i, past the end
 --   Met p q v w      == w is the next meeting node along q after v, with its index there
---   meeting_is       == where the next meeting node is looked for; met-from == and is found
+--   meeting_is       == where the next meeting node is looked for; met_from == and is found
 --   meets            == a node that has a jump has a next meeting node
 --   jump_met         == the jump is the difference of the two positions
---   jump_some        == a node that has a jump has one in the order of either route (by good-swap and has-jump-swap)
+--   jump_some        == a node that has a jump has one in the order of either route (by good_swap and has_jump_swap)
 --   difference       == a fact of the difference of two numbers, by which is greater
 --   difference_small == the difference of two positions below 256 fits 32 bits
 --   jump_range       == a jump is from -253 to 255 and not 0

@@ -39,7 +39,7 @@
 --
 --   due_rule            == a due node has a rule on one of the two lists, which may be any
 --   tally_cong, tally_most, tally_add == equal tests have equal tallies; the tally of k numbers is at most k; one number more
---   get_d_default        == below the length no default is read
+--   get_d_default       == below the length no default is read
 --   apart_read          == the test whether two tables differ, by reading an element of each
 --   values_one, differ_one == a list has one table of next values, two tables one array of marks
 use Prim.Native.Nat.{ℕ, zero, suc, ◌+◌, ◌-◌, ◌<◌, ◌≤◌}

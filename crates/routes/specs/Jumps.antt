@@ -4,10 +4,10 @@
 --
 --   position l v   == the index of v on l; the length of l where v isn't on it
 --   on l v         == v is on the route l
---   first_on p l    == the first id of l that is on p
+--   first_on p l   == the first id of l that is on p
 --   meeting q p v  == the next meeting node along q after v: the first later id there that is on p too
 --   jump p q v     == v's jump in the order of p: the next meeting node is taken along q, the positions on p
---   has_jump o n v  == v is on both routes and isn't the destination
+--   has_jump o n v == v is on both routes and isn't the destination
 --   Ranged z       == from -253 to 255 and not 0
 --   letter z       == the sign of a jump as document 001's letter: F (70) forward, B (66) backward
 use Rattle.std.specs.Prelude.{ℕ, suc, ◌<◌, ◌≤◌, Bool, not, cond, ◌&&◌, List, [], ◌∷◌, length, drop, eqb, ltb, ℤ, pos, negsuc, ◌-ℤ◌}

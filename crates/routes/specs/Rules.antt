@@ -7,7 +7,7 @@
 --   value l v      == the next value of v on l: the id after it, 513 (handed off) where v is the last, 512 (nothing) where v
 --                     isn't on l
 --   Values l t     == the table t holds the next values of the 512 nodes on l
---   change_of a b   == from the next value a to the next value b, as `change`
+--   change_of a b  == from the next value a to the next value b, as `change`
 --   tally k f      == how many of the numbers below k the test f holds of
 --   Differ a b m   == the marks m hold exactly the nodes at which the tables a and b differ
 use Rattle.std.specs.Prelude.{ℕ, zero, suc, ◌+◌, ◌<◌, ◌≡◌, Bool, true, false, not, cond, List, [], ◌∷◌, length, get_or, eqb}

@@ -1,7 +1,7 @@
 -- The walk: from the source, by each node's rule. A walk's start counts as coming to the source.
 --
 --   State            == a set of changed nodes: those use the new rule, all others the old one
---   in_state o n X v  == the rule of v in the state X
+--   in_state o n X v == the rule of v in the state X
 --   place f s k      == where the walk from s by the rules f is after k hops; none where it has ended before
 --   Walks f s d a    == a is what the walk comes to: arrived at d; dropped at a node other than d that has no rule; looped,
 --                       at the first node come to a second time; each with the hops made, the hop back included

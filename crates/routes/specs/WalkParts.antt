@@ -2,9 +2,9 @@
 --
 --   next_in a b X v == the next value of v in the state X; a is the table of the old route and b that of the new
 --   rule_of t v     == the rule that the next value of v stands for: an id is a rule, anything above 511 is none
---   Goes t s a     == a is what the walk from s by the next values t comes to, as `Walks`: it has arrived where the next
+--   Goes t s a      == a is what the walk from s by the next values t comes to, as `Walks`: it has arrived where the next
 --                     value is 513 (handed off), and is dropped where it is any other above 511
---   Stray ws m i   == the id i is in the set ws and isn't marked in m
+--   Stray ws m i    == the id i is in the set ws and isn't marked in m
 use Rattle.std.specs.Prelude.{ℕ, ◌<◌, ◌≡◌, Bool, true, false, cond, List, get_or, ltb}
 use Rattle.std.proofs.Math.Option.{Option, none, some}
 use Rattle.house.specs.Sets.{has}

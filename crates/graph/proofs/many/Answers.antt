@@ -11,8 +11,7 @@ loop-i-init c = (sym (sum_zero _), omega arith)
 
 pub overflow_add-n : goal.overflow_add-n
 overflow_add-n c =
-    let l = c in
-    omega (arith, among_bound l.loop-i.i 1 l.args.alive.now (λ u. 1) (λ u. omega arith))
+    omega (arith, among_bound c.loop-i.i 1 c.args.alive.now (λ u. 1) (λ u. omega arith))
 
 pub loop-i-preserved : goal.loop-i-preserved
 loop-i-preserved c =

@@ -22,12 +22,12 @@ follow-tail-requires c =
 
 pub overflow_add-head : goal.overflow_add-head
 overflow_add-head c =
-    let low : c.loop-head.head < 514 = let l = c in omega (arith, room_bound l.loop-head.invariant.search.room, l.loop-head-test.true) in
+    let low : c.loop-head.head < 514 = omega (arith, room_bound c.loop-head.invariant.search.room, c.loop-head-test.true) in
     omega (arith, low)
 
 pub loop-head-smaller : goal.loop-head-smaller
 loop-head-smaller c =
-    let low : c.loop-head.head < 514 = let l = c in omega (arith, room_bound l.loop-head.invariant.search.room, l.loop-head-test.true) in
+    let low : c.loop-head.head < 514 = omega (arith, room_bound c.loop-head.invariant.search.room, c.loop-head-test.true) in
     omega (arith, low)
 
 pub loop-head-preserved : goal.loop-head-preserved

@@ -4,7 +4,7 @@ use Rattle.graph.proofs.SearchLaws.{one_new, one_old}
 use Rattle.graph.proofs.one.Goals as goal
 
 pub returns-then-choice-v-eq1 : goal.returns-then-choice-v-eq1
-returns-then-choice-v-eq1 c = let s = c in one_new _ _ _ _ _ s.requires c.if-choice-v-eq1.true c.wide.ensures
+returns-then-choice-v-eq1 c = one_new _ _ _ _ _ c.requires c.if-choice-v-eq1.true c.wide.ensures
 
 pub returns : goal.returns
-returns c = let s = c in one_old _ _ _ _ _ s.requires c.if-choice-v-eq1.false c.wide-2.ensures
+returns c = one_old _ _ _ _ _ c.requires c.if-choice-v-eq1.false c.wide-2.ensures

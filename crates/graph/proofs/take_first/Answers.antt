@@ -14,10 +14,9 @@ loop-w-smaller c = omega (arith, c.loop-w-test.true)
 
 pub loop-w-preserved : goal.loop-w-preserved
 loop-w-preserved c =
-    let l = c in
     let t = c.loop-w-test.true in
     let d = c.offer-tail.ensures in
-    (offer_peel l.loop-w.invariant.0 d, busy_more l.loop-w.invariant.1 (omega (arith, t)) d, omega (arith, t))
+    (offer_peel c.loop-w.invariant.0 d, busy_more c.loop-w.invariant.1 (omega (arith, t)) d, omega (arith, t))
 
 pub returns : goal.returns
 returns c =

@@ -1,6 +1,5 @@
 -- `graph::take_first` meets its contract. The loop's invariant: the set is split into what remains and the queue, and
--- every node passed that remains has a count that is not 0. The measure is what is left of the 512 nodes. Assumes
--- nothing.
+-- every node passed that remains has a count that is not 0. The measure is what is left of the 512 nodes.
 use Prim.Native.Nat.{◌≤◌, ◌-◌}
 use Rattle.graph.specs.Working.{Peel, Busy}
 use Rattle.graph.proofs.take_first.Given as goal

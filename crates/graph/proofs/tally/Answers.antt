@@ -8,18 +8,15 @@ pub returns-then-not-alive-v : goal.returns-then-not-alive-v
 returns-then-not-alive-v c = tally_out c.requires.tally c.if-not-alive-v.true
 
 pub raise-requires : goal.raise-requires
-raise-requires c = let s = c in (s.requires.tally.size, tally_room s.requires.tally s.requires.tables.1 _)
+raise-requires c = (c.requires.tally.size, tally_room c.requires.tally c.requires.tables.1 _)
 
 pub raise-requires-2 : goal.raise-requires-2
 raise-requires-2 c =
     let r = c.raise.ensures in
-    let s = c in
-    (r.same, raised_room _ s.requires.tally s.requires.tables.1 r _)
+    (r.same, raised_room _ c.requires.tally c.requires.tables.1 r _)
 
 pub returns : goal.returns
 returns c =
-    let o = c in
-    let s = o in
-    tally_both s.requires.tally (search rules) o.one-a.ensures o.other-b.ensures
+    tally_both c.requires.tally (search rules) c.one-a.ensures c.other-b.ensures
     c.raise.ensures
     c.raise-2.ensures

@@ -14,17 +14,17 @@ returns-then-seen-w c = known c.if-seen-w.true
 
 pub offset_bounds-queue-tail : goal.offset_bounds-queue-tail
 offset_bounds-queue-tail c =
-    let room : c.args.tail < 514 = let s = c in room_left s.args.w s.requires c.if-w-ge514.false c.if-seen-w.false in
+    let room : c.args.tail < 514 = room_left c.args.w c.requires c.if-w-ge514.false c.if-seen-w.false in
     omega (arith, room)
 
 pub bounds-queue-tail : goal.bounds-queue-tail
 bounds-queue-tail c =
-    let room : c.args.tail < 514 = let s = c in room_left s.args.w s.requires c.if-w-ge514.false c.if-seen-w.false in
+    let room : c.args.tail < 514 = room_left c.args.w c.requires c.if-w-ge514.false c.if-seen-w.false in
     room
 
 pub overflow_add-result : goal.overflow_add-result
 overflow_add-result c =
-    let room : c.args.tail < 514 = let s = c in room_left s.args.w s.requires c.if-w-ge514.false c.if-seen-w.false in
+    let room : c.args.tail < 514 = room_left c.args.w c.requires c.if-w-ge514.false c.if-seen-w.false in
     omega (arith, room)
 
 pub returns : goal.returns

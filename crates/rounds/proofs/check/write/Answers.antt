@@ -9,7 +9,7 @@ use Rattle.rounds.proofs.check.write.Goals as goal
 
 begun_none : (ws l : List ℕ) → Begun ws l l 0
 unfolding encode
-begun_none ws l = record { within = omega arith; same-long = refl; front = refl }
+begun_none ws l = record { within = omega arith; same_long = refl; front = refl }
 
 pub loop-i-init : goal.loop-i-init
 loop-i-init c = begun_none _ _
@@ -18,7 +18,7 @@ pub loop-i-preserved : goal.loop-i-preserved
 loop-i-preserved c =
     record {
       within = omega arith;
-      same-long = c.put_word.auto.b ∙ c.loop-i.invariant.same-long;
+      same_long = c.put_word.auto.b ∙ c.loop-i.invariant.same_long;
       front =
           c.put_word.ensures
           ∙ write_more 8 _ _ _ c.loop-i.i (omega (arith, c.requires.1)) (omega (arith, c.requires.0)) c.loop-i.invariant.front;

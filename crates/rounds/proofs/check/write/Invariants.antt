@@ -9,7 +9,7 @@ use Rattle.rounds.proofs.check.write.Given as goal
 
 pub record Begun (ws l : List ℕ) (b : List ℕ) (i : ℕ) : Type 0 where
   pub within : i ≤ 8
-  pub same-long : length b ≡ length l
+  pub same_long : length b ≡ length l
   pub front : b ≡ encode 8 (take i ws) ++ drop (8 * i) l
 
 abbrev pub invariant-loop-i : goal.invariant-loop-i

@@ -1,6 +1,5 @@
 -- `schedule::judge` meets its contract: 1 is given first, where ids or sizes are not whole entries; then what judging the pair of
--- routes answers, which has a lower number than any refusal of the schedule; and only of a good pair the schedule is judged. Assumes
--- nothing.
+-- routes answers, which has a lower number than any refusal of the schedule; and only of a good pair the schedule is judged.
 use Prim.Native.Nat.{ℕ}
 use mathlib.Core.List.{List}
 use Rattle.house.specs.Refusals.{Clear, First}

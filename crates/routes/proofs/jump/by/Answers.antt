@@ -20,7 +20,7 @@ pub record Positions (p q : List ℕ) (v a b : ℕ) : Type 0 where
   pub there : a ≡ position p node
   pub own : b ≡ position p v
   pub first_small : a < 256
-  pub second-small : b < 256
+  pub second_small : b < 256
 
 pub overflow_add-from : goal.overflow_add-from
 overflow_add-from c =
@@ -29,41 +29,40 @@ overflow_add-from c =
 
 pub difference-requires : goal.difference-requires
 difference-requires c =
-    let positions : Positions (entries c.args.order.now) (entries c.args.along.now) c.args.node c.meet.result c.position.result = let s = c in
-    let a = s.args in
+    let positions : Positions (entries c.args.order.now) (entries c.args.along.now) c.args.node c.meet.result c.position.result = let a = c.args in
     let p = entries a.order.now in
     let q = entries a.along.now in
-    let h = has_jump_known p q a.node s.requires.node_value in
-    let (w, m) = meets s.requires.good h in
+    let h = has_jump_known p q a.node c.requires.node_value in
+    let (w, m) = meets c.requires.good h in
     let e : c.meet.result ≡ position p w = c.meet.ensures w (met_from m c.position-from.ensures) in
     record {
       node = w;
       met = m;
       there = e;
       own = c.position.ensures;
-      first_small = omega (arith, m.shared, s.requires.good.old.most);
-      second-small = omega (arith, h.on_old, s.requires.good.old.most, c.position.ensures);
+      first_small = omega (arith, m.shared, c.requires.good.old.most);
+      second_small = omega (arith, h.on_old, c.requires.good.old.most, c.position.ensures);
     } in
-    (positions.first_small, positions.second-small)
+    (positions.first_small, positions.second_small)
 
 pub returns : goal.returns
 returns c =
-    let positions : Positions (entries c.args.order.now) (entries c.args.along.now) c.args.node c.meet.result c.position.result = let s = c in
-    let a = s.args in
+    let positions : Positions (entries c.args.order.now) (entries c.args.along.now) c.args.node c.meet.result c.position.result =
+    let a = c.args in
     let p = entries a.order.now in
     let q = entries a.along.now in
-    let h = has_jump_known p q a.node s.requires.node_value in
-    let (w, m) = meets s.requires.good h in
+    let h = has_jump_known p q a.node c.requires.node_value in
+    let (w, m) = meets c.requires.good h in
     let e : c.meet.result ≡ position p w = c.meet.ensures w (met_from m c.position-from.ensures) in
     record {
       node = w;
       met = m;
       there = e;
       own = c.position.ensures;
-      first_small = omega (arith, m.shared, s.requires.good.old.most);
-      second-small = omega (arith, h.on_old, s.requires.good.old.most, c.position.ensures);
+      first_small = omega (arith, m.shared, c.requires.good.old.most);
+      second_small = omega (arith, h.on_old, c.requires.good.old.most, c.position.ensures);
     } in
     let s = positions in
     let fits : SFits w32 c.difference.result =
-    rw c.difference.ensures (difference_small _ _ s.first_small s.second-small) in
+    rw c.difference.ensures (difference_small _ _ s.first_small s.second_small) in
     jump_met s.met ∙ rw (← s.there, ← s.own, ← c.difference.ensures, to_z-of_z w32 c.difference.result fits)

@@ -16,7 +16,7 @@ use Rattle.routes.proofs.jump.jumps.Goals as goal
 
 -- past both tests: the pair is sound, and the node has jumps
 pub record Past (old new : List ℕ) (v : ℕ) : Type 0 where
-  pub is-sound : Judges old new Sound
+  pub is_sound : Judges old new Sound
   pub has : has_jump (entries old) (entries new) v ≡ true
 
 pub returns-in-Faulty : goal.returns-in-Faulty
@@ -29,28 +29,28 @@ returns-then-not-has c =
 pub by-requires : goal.by-requires
 by-requires c =
     let past : Past c.args.old.now c.args.new.now c.args.node = record {
-      is-sound = c.in_default.ensures;
+      is_sound = c.in_default.ensures;
       has = sym c.has.ensures ∙ c.if-not-has.false;
     } in
-    record { good = judges_good past.is-sound; node_value = past.has }
+    record { good = judges_good past.is_sound; node_value = past.has }
 
 pub by-requires-2 : goal.by-requires-2
 by-requires-2 c =
     let past : Past c.args.old.now c.args.new.now c.args.node = record {
-      is-sound = c.in_default.ensures;
+      is_sound = c.in_default.ensures;
       has = sym c.has.ensures ∙ c.if-not-has.false;
     } in
     record {
-      good = good_swap (judges_good past.is-sound);
-      node_value = sym (has_jump_swap (judges_good past.is-sound) _) ∙ past.has;
+      good = good_swap (judges_good past.is_sound);
+      node_value = sym (has_jump_swap (judges_good past.is_sound) _) ∙ past.has;
     }
 
 pub returns : goal.returns
 returns c =
     let past : Past c.args.old.now c.args.new.now c.args.node = record {
-      is-sound = c.in_default.ensures;
+      is_sound = c.in_default.ensures;
       has = sym c.has.ensures ∙ c.if-not-has.false;
     } in
     rw
     (to_z-of_z w32 c.by.result (record { sfits = c.by.type_inv }), to_z-of_z w32 c.by-2.result (record { sfits = c.by-2.type_inv }))
-    (jumps_by past.is-sound past.has c.by.ensures c.by-2.ensures)
+    (jumps_by past.is_sound past.has c.by.ensures c.by-2.ensures)

@@ -19,8 +19,7 @@ search-smaller c = omega (arith, length_entries c.args.route.now)
 
 pub search-preserved : goal.search-preserved
 search-preserved c =
-    let a = c in
-    unmet_more a.search.invariant (omega (arith, length_entries a.args.route.now))
+    unmet_more c.search.invariant (omega (arith, length_entries c.args.route.now))
     (λ (j, h, e). c.loop-j.invariant.none_before j (omega arith) (e ∙ sym c.entry-v.ensures))
 
 pub returns-after-search : goal.returns-after-search
@@ -28,6 +27,5 @@ returns-after-search c = unmet_end c.search.invariant (omega (arith, length_entr
 
 pub returns-then-entry-v : goal.returns-then-entry-v
 returns-then-entry-v c =
-    let a = c in
-    unmet_here a.search.invariant
-    (a.loop-j.j, omega arith, sym c.entry.ensures ∙ c.if-entry-v.true ∙ a.entry-v.ensures)
+    unmet_here c.search.invariant
+    (c.loop-j.j, omega arith, sym c.entry.ensures ∙ c.if-entry-v.true ∙ c.entry-v.ensures)

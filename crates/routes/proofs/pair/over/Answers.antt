@@ -11,8 +11,7 @@ returns-then-entry-gt511 c = unmet_here c.loop-i.invariant (omega (arith, c.entr
 
 pub loop-i-preserved : goal.loop-i-preserved
 loop-i-preserved c =
-    let a = c in
-    unmet_more a.loop-i.invariant (omega (arith, length_entries a.args.route.now))
+    unmet_more c.loop-i.invariant (omega (arith, length_entries c.args.route.now))
     (omega (arith, c.entry.ensures))
 
 pub returns : goal.returns

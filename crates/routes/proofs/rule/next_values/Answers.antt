@@ -36,17 +36,15 @@ loop-i-init c = filled_none _ (sym (length_entries _)) values_nil
 
 pub loop-i-preserved-then-v-lt512 : goal.loop-i-preserved-then-v-lt512
 loop-i-preserved-then-v-lt512 c =
-    let at = c in
-    filled_more at.loop-i.i c.loop-i-test.true at.loop-i.invariant.within c.wide-v.ensures
+    filled_more c.loop-i.i c.loop-i-test.true c.loop-i.invariant.within c.wide-v.ensures
     c.entry-id.ensures
-    (values_store at.loop-i.invariant.table at.loop-i.invariant.first c.if-v-lt512.true)
+    (values_store c.loop-i.invariant.table c.loop-i.invariant.first c.if-v-lt512.true)
 
 pub loop-i-preserved : goal.loop-i-preserved
 loop-i-preserved c =
-    let at = c in
-    filled_more at.loop-i.i c.loop-i-test.true at.loop-i.invariant.within c.wide-v.ensures
+    filled_more c.loop-i.i c.loop-i-test.true c.loop-i.invariant.within c.wide-v.ensures
     c.entry-id.ensures
-    (values_skip at.loop-i.invariant.table c.if-v-lt512.false)
+    (values_skip c.loop-i.invariant.table c.if-v-lt512.false)
 
 pub returns : goal.returns
 returns c = filled_all c.loop-i.invariant c.loop-i-test.false
