@@ -4,7 +4,7 @@
 --   jumped p z           == the jump p is z; jumped_is == what this tells
 --   at_node p v, nowhere p == a place, or a rule, is the node v, or none; at_node_is, nowhere_is == what these tell
 --   walk_well f s d a    == the walk comes to a, at an end; walk_is == what this tells
---   fault_of_known nr          == the fault of the number nr: 16 a drop, 17 a loop
+--   fault_of_known nr    == the fault of the number nr: 16 a drop, 17 a loop
 --   well c               == the test of the case c; well_holds == what this tells
 --   all_well_hold        == cases that all pass their tests hold
 --   all_hold             == K1 to K14
