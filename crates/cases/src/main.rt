@@ -17,7 +17,7 @@ use std::io::Write;
 fn main(rt: HostRuntime) {
     let mut frame = [0u8; 2048];
     for _ in 0..1000000usize {
-        let got = streams::read_full(&mut rt.stdin(), &mut frame);
+        let (got, _) = streams::read_full(&mut rt.stdin(), &mut frame);
         if got < 2048 {
             return;
         }
