@@ -13,20 +13,5 @@ returns-then-not-rest-w c = gone c.if-not-rest-w.true
 pub returns-then-count-w-gt0 : goal.returns-then-count-w-gt0
 returns-then-count-w-gt0 c = busy (omega (arith, c.if-count-w-gt0.true))
 
-pub offset_bounds-queue-tail : goal.offset_bounds-queue-tail
-offset_bounds-queue-tail c =
-    let room : c.args.tail < 512 = c.requires c.if-not-rest-w.false in
-    omega (arith, room)
-
-pub bounds-queue-tail : goal.bounds-queue-tail
-bounds-queue-tail c =
-    let room : c.args.tail < 512 = c.requires c.if-not-rest-w.false in
-    room
-
-pub overflow_add-result : goal.overflow_add-result
-overflow_add-result c =
-    let room : c.args.tail < 512 = c.requires c.if-not-rest-w.false in
-    omega (arith, room)
-
 pub returns : goal.returns
 returns c = free c.if-w-ge512.false c.if-not-rest-w.false (omega arith)

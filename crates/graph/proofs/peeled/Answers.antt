@@ -16,15 +16,8 @@ pub take_next-tail-requires : goal.take_next-tail-requires
 take_next-tail-requires c =
     record { tables = c.requires.0; peeling = (c.loop-head.invariant, c.loop-head-test.true) }
 
-pub overflow_add-head : goal.overflow_add-head
-overflow_add-head c =
-    let low : c.loop-head.head < 512 = omega (arith, peel_bound c.loop-head.invariant.peel, c.loop-head-test.true) in
-    omega (arith, low)
-
 pub loop-head-smaller : goal.loop-head-smaller
-loop-head-smaller c =
-    let low : c.loop-head.head < 512 = omega (arith, peel_bound c.loop-head.invariant.peel, c.loop-head-test.true) in
-    omega (arith, low)
+loop-head-smaller c = omega (arith, peel_bound c.loop-head.invariant.peel, c.loop-head-test.true)
 
 pub loop-head-preserved : goal.loop-head-preserved
 loop-head-preserved c = c.take_next-tail.ensures

@@ -13,15 +13,8 @@ pub follow-tail-requires : goal.follow-tail-requires
 follow-tail-requires c =
     record { tables = c.requires; begun = (c.loop-head.invariant, c.loop-head-test.true) }
 
-pub overflow_add-head : goal.overflow_add-head
-overflow_add-head c =
-    let low : c.loop-head.head < 514 = omega (arith, room_bound c.loop-head.invariant.search.room, c.loop-head-test.true) in
-    omega (arith, low)
-
 pub loop-head-smaller : goal.loop-head-smaller
-loop-head-smaller c =
-    let low : c.loop-head.head < 514 = omega (arith, room_bound c.loop-head.invariant.search.room, c.loop-head-test.true) in
-    omega (arith, low)
+loop-head-smaller c = omega (arith, room_bound c.loop-head.invariant.search.room, c.loop-head-test.true)
 
 pub loop-head-preserved : goal.loop-head-preserved
 loop-head-preserved c = c.follow-tail.ensures

@@ -5,22 +5,13 @@ use native.Mathlib.Omega.{arith}
 use Rattle.graph.specs.Working.{Peel}
 use Rattle.graph.proofs.PeelingLaws.{peel_bound, peel_room, peel_next, lower_one, lower_other, offer_peel, peeling_next}
 use Rattle.graph.proofs.take_next.Goals as goal
+use Rattle.graph.proofs.take_next.Goals.{After-lower-2}
 
 pub offset_bounds-queue-head : goal.offset_bounds-queue-head
 offset_bounds-queue-head c = omega (arith, peel_bound c.requires.peeling.0.peel)
 
 pub bounds-queue-head : goal.bounds-queue-head
 bounds-queue-head c = omega (arith, peel_bound c.requires.peeling.0.peel)
-
-pub one-a-requires : goal.one-a-requires
-one-a-requires c =
-    let node : c.wide-v.result < 512 = omega (arith, c.wide-v.ensures, c.requires.peeling.0.peel.nodes c.args.head c.requires.peeling.1) in
-    (c.requires.tables, node)
-
-pub other-b-requires : goal.other-b-requires
-other-b-requires c =
-    let node : c.wide-v.result < 512 = omega (arith, c.wide-v.ensures, c.requires.peeling.0.peel.nodes c.args.head c.requires.peeling.1) in
-    (c.requires.tables, node)
 
 pub lower-requires : goal.lower-requires
 lower-requires c =
@@ -36,25 +27,22 @@ lower-requires-2 c = (
       c.lower.ensures,
 )
 
-pub offer-t-requires : goal.offer-t-requires
-offer-t-requires c =
-    let lowered : Peel c.args.old.now c.args.new.now c.args.choice.now c.args.alive.now c.args.rest.now c.lower-2.new.count
-    c.args.queue.now (c.args.head + 1) c.args.tail =
+-- past both lowerings the set is split with the head moved on
+lowered :
+    (c : After-lower-2)
+    → Peel c.args.old.now c.args.new.now c.args.choice.now c.args.alive.now c.args.rest.now c.lower-2.new.count
+    c.args.queue.now (c.args.head + 1) c.args.tail
+lowered c =
     peel_next c.wide-v.result c.requires.peeling.0.peel c.requires.peeling.1 c.wide-v.ensures c.one-a.ensures
     c.other-b.ensures
     c.lower.ensures
-    c.lower-2.ensures in
-    peel_room lowered _
+    c.lower-2.ensures
+
+pub offer-t-requires : goal.offer-t-requires
+offer-t-requires c = peel_room (lowered (goal.at.offer-t-requires c).After-lower-2) _
 
 pub offer-requires : goal.offer-requires
-offer-requires c =
-    let lowered : Peel c.args.old.now c.args.new.now c.args.choice.now c.args.alive.now c.args.rest.now c.lower-2.new.count
-    c.args.queue.now (c.args.head + 1) c.args.tail =
-    peel_next c.wide-v.result c.requires.peeling.0.peel c.requires.peeling.1 c.wide-v.ensures c.one-a.ensures
-    c.other-b.ensures
-    c.lower.ensures
-    c.lower-2.ensures in
-    peel_room (offer_peel lowered c.offer-t.ensures) _
+offer-requires c = peel_room (offer_peel (lowered (goal.at.offer-requires c).After-lower-2) c.offer-t.ensures) _
 
 pub returns : goal.returns
 returns c =

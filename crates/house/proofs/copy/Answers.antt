@@ -12,12 +12,6 @@ use Rattle.house.proofs.copy.Goals as goal
 pub loop-i-init : goal.loop-i-init
 loop-i-init c = (omega arith, refl)
 
-pub bounds-to-at : goal.bounds-to-at
-bounds-to-at c =
-    let kept : length c.loop-i.to ≡ length c.args.to.now = let a = c.args in
-    ap length c.loop-i.invariant.1 ∙ length-sets a.to.now a.at (take c.loop-i.i a.from.now) in
-    omega (arith, kept)
-
 pub loop-i-preserved : goal.loop-i-preserved
 loop-i-preserved c =
     let a = c.args in
@@ -27,12 +21,6 @@ loop-i-preserved c =
           ∙ sets_more a.to.now a.from.now a.at i (search rules)
           ∙ ap (λ (k : ℕ). sets a.to.now a.at (take k a.from.now)) (sym (add-one i)),
     )
-
-pub shape_of-to : goal.shape_of-to
-shape_of-to c =
-    let kept : length c.loop-i.to ≡ length c.args.to.now = let a = c.args in
-    ap length c.loop-i.invariant.1 ∙ length-sets a.to.now a.at (take c.loop-i.i a.from.now) in
-    kept
 
 pub returns : goal.returns
 returns c =

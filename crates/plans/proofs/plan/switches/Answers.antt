@@ -37,24 +37,6 @@ loop-j-preserved-then-code_at-ne3 c =
       omega (arith, h),
     )
 
-pub offset_bounds-left-many : goal.offset_bounds-left-many
-offset_bounds-left-many c =
-    let few : c.loop-j.many < 256 =
-    omega (arith, c.loop-j.invariant.0.fewer, c.loop-j-test.true, c.requires.0.most, length_entries c.args.route.now) in
-    omega (arith, few)
-
-pub bounds-left-many : goal.bounds-left-many
-bounds-left-many c =
-    let few : c.loop-j.many < 256 =
-    omega (arith, c.loop-j.invariant.0.fewer, c.loop-j-test.true, c.requires.0.most, length_entries c.args.route.now) in
-    few
-
-pub overflow_add-many : goal.overflow_add-many
-overflow_add-many c =
-    let few : c.loop-j.many < 256 =
-    omega (arith, c.loop-j.invariant.0.fewer, c.loop-j-test.true, c.requires.0.most, length_entries c.args.route.now) in
-    omega (arith, few)
-
 pub loop-j-smaller : goal.loop-j-smaller
 loop-j-smaller c = omega (arith, c.loop-j-test.true)
 

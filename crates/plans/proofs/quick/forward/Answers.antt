@@ -10,20 +10,6 @@ use Rattle.plans.proofs.quick.forward.Goals as goal
 pub loop-i-init : goal.loop-i-init
 loop-i-init c = passing_begins _ _ (sym (length_entries _))
 
-pub offset_bounds-at-v : goal.offset_bounds-at-v
-offset_bounds-at-v c =
-    let there : c.wide-v.result ≡ get_or (entries c.args.along.now) (c.loop-i.i - 1) 0 = c.wide-v.ensures ∙ c.entry.ensures in
-    let small : c.wide-v.result < 512 = let l = c.loop-i in
-    omega (arith, there, c.requires.1.ids (l.i - 1) (omega (arith, l.invariant.within, c.loop-i-test.true))) in
-    omega (arith, small)
-
-pub bounds-at-v : goal.bounds-at-v
-bounds-at-v c =
-    let there : c.wide-v.result ≡ get_or (entries c.args.along.now) (c.loop-i.i - 1) 0 = c.wide-v.ensures ∙ c.entry.ensures in
-    let small : c.wide-v.result < 512 = let l = c.loop-i in
-    omega (arith, there, c.requires.1.ids (l.i - 1) (omega (arith, l.invariant.within, c.loop-i-test.true))) in
-    small
-
 pub loop-i-smaller-then-here-eq512 : goal.loop-i-smaller-then-here-eq512
 loop-i-smaller-then-here-eq512 c = omega (arith, c.loop-i-test.true)
 
@@ -34,13 +20,6 @@ loop-i-preserved-then-here-eq512 c =
     omega (arith, there, c.requires.1.ids (l.i - 1) (omega (arith, l.invariant.within, c.loop-i-test.true))) in
     passing_off (c.loop-i.i - 1) c.requires.1 c.loop-i.invariant (omega (arith, c.loop-i-test.true)) there
     (places_off c.requires.0 c.positions-at.ensures small c.if-here-eq512.true)
-
-pub bounds-marks-v : goal.bounds-marks-v
-bounds-marks-v c =
-    let there : c.wide-v.result ≡ get_or (entries c.args.along.now) (c.loop-i.i - 1) 0 = c.wide-v.ensures ∙ c.entry.ensures in
-    let small : c.wide-v.result < 512 = let l = c.loop-i in
-    omega (arith, there, c.requires.1.ids (l.i - 1) (omega (arith, l.invariant.within, c.loop-i-test.true))) in
-    small
 
 pub loop-i-smaller : goal.loop-i-smaller
 loop-i-smaller c = omega (arith, c.loop-i-test.true)

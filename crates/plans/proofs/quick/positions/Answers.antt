@@ -11,23 +11,7 @@ pub loop-i-init : goal.loop-i-init
 loop-i-init c = (places_begins _, omega arith)
 
 pub overflow_cast-at : goal.overflow_cast-at
-overflow_cast-at c =
-    let below : c.loop-i.i < length (entries c.args.route.now) = omega (arith, c.loop-i-test.true, length_entries c.args.route.now) in
-    omega (arith, below, c.requires.most)
-
-pub offset_bounds-at-v : goal.offset_bounds-at-v
-offset_bounds-at-v c =
-    let below : c.loop-i.i < length (entries c.args.route.now) = omega (arith, c.loop-i-test.true, length_entries c.args.route.now) in
-    let there : c.wide-v.result ≡ get_or (entries c.args.route.now) c.loop-i.i 0 = c.wide-v.ensures ∙ c.entry.ensures in
-    let small : c.wide-v.result < 512 = omega (arith, there, c.requires.ids c.loop-i.i below) in
-    omega (arith, small)
-
-pub bounds-at-v : goal.bounds-at-v
-bounds-at-v c =
-    let below : c.loop-i.i < length (entries c.args.route.now) = omega (arith, c.loop-i-test.true, length_entries c.args.route.now) in
-    let there : c.wide-v.result ≡ get_or (entries c.args.route.now) c.loop-i.i 0 = c.wide-v.ensures ∙ c.entry.ensures in
-    let small : c.wide-v.result < 512 = omega (arith, there, c.requires.ids c.loop-i.i below) in
-    small
+overflow_cast-at c = omega (arith, c.loop-i-test.true, length_entries c.args.route.now, c.requires.most)
 
 pub loop-i-smaller : goal.loop-i-smaller
 loop-i-smaller c = omega (arith, c.loop-i-test.true)

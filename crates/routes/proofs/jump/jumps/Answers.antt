@@ -13,11 +13,15 @@ use Rattle.routes.specs.declared.pair.Judged.TheVariants.{Sound}
 use Rattle.routes.proofs.JumpLaws.{jumps_judged, jumps_none, jumps_by, judges_good, has_jump_swap}
 use Rattle.routes.proofs.RuleLaws.{good_swap}
 use Rattle.routes.proofs.jump.jumps.Goals as goal
+use Rattle.routes.proofs.jump.jumps.Goals.{Else-not-has}
 
 -- past both tests: the pair is sound, and the node has jumps
 pub record Past (old new : List ℕ) (v : ℕ) : Type 0 where
   pub is_sound : Judges old new Sound
   pub has : has_jump (entries old) (entries new) v ≡ true
+
+past_both : (c : Else-not-has) → Past c.args.old.now c.args.new.now c.args.node
+past_both c = record { is_sound = c.in_default.ensures; has = sym c.has.ensures ∙ c.if-not-has.false }
 
 pub returns-in-Faulty : goal.returns-in-Faulty
 returns-in-Faulty c = jumps_judged c.in-Faulty.ensures
@@ -28,18 +32,12 @@ returns-then-not-has c =
 
 pub by-requires : goal.by-requires
 by-requires c =
-    let past : Past c.args.old.now c.args.new.now c.args.node = record {
-      is_sound = c.in_default.ensures;
-      has = sym c.has.ensures ∙ c.if-not-has.false;
-    } in
+    let past = past_both (goal.at.by-requires c).Else-not-has in
     record { good = judges_good past.is_sound; node_value = past.has }
 
 pub by-requires-2 : goal.by-requires-2
 by-requires-2 c =
-    let past : Past c.args.old.now c.args.new.now c.args.node = record {
-      is_sound = c.in_default.ensures;
-      has = sym c.has.ensures ∙ c.if-not-has.false;
-    } in
+    let past = past_both (goal.at.by-requires-2 c).Else-not-has in
     record {
       good = good_swap (judges_good past.is_sound);
       node_value = sym (has_jump_swap (judges_good past.is_sound) _) ∙ past.has;
@@ -47,10 +45,7 @@ by-requires-2 c =
 
 pub returns : goal.returns
 returns c =
-    let past : Past c.args.old.now c.args.new.now c.args.node = record {
-      is_sound = c.in_default.ensures;
-      has = sym c.has.ensures ∙ c.if-not-has.false;
-    } in
+    let past = past_both (goal.at.returns c).Else-not-has in
     rw
     (to_z-of_z w32 c.by.result (record { sfits = c.by.type_inv }), to_z-of_z w32 c.by-2.result (record { sfits = c.by-2.type_inv }))
     (jumps_by past.is_sound past.has c.by.ensures c.by-2.ensures)

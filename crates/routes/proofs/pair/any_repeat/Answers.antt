@@ -12,15 +12,6 @@ use Rattle.routes.proofs.pair.any_repeat.Goals as goal
 pub loop-i-init : goal.loop-i-init
 loop-i-init c = marked_none
 
-pub bounds-met-v : goal.bounds-met-v
-bounds-met-v c =
-    let at_of : ℕ = c.loop-i.i in
-    let ids_of : List ℕ = entries c.args.route.now in
-    let inside : at_of < length ids_of = omega (arith, length_entries c.args.route.now) in
-    let same : c.wide-v.result ≡ get_or ids_of at_of 0 = c.wide-v.ensures ∙ c.entry.ensures in
-    let small : c.wide-v.result < 512 = omega (arith, same, c.requires.low at_of inside) in
-    small
-
 pub returns-then-met-v : goal.returns-then-met-v
 returns-then-met-v c =
     let ids_of : List ℕ = entries c.args.route.now in
@@ -28,15 +19,6 @@ returns-then-met-v c =
     let inside : at_of < length ids_of = omega (arith, length_entries c.args.route.now) in
     let same : c.wide-v.result ≡ get_or ids_of at_of 0 = c.wide-v.ensures ∙ c.entry.ensures in
     marked_here c.loop-i.invariant inside same c.if-met-v.true
-
-pub bounds-met-v-in-loop-i : goal.bounds-met-v-in-loop-i
-bounds-met-v-in-loop-i c =
-    let at_of : ℕ = c.loop-i.i in
-    let ids_of : List ℕ = entries c.args.route.now in
-    let inside : at_of < length ids_of = omega (arith, length_entries c.args.route.now) in
-    let same : c.wide-v.result ≡ get_or ids_of at_of 0 = c.wide-v.ensures ∙ c.entry.ensures in
-    let small : c.wide-v.result < 512 = omega (arith, same, c.requires.low at_of inside) in
-    small
 
 pub loop-i-preserved : goal.loop-i-preserved
 loop-i-preserved c =
