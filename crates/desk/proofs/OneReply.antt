@@ -26,7 +26,8 @@ use Rattle.planfile.specs.File.{Holds}
 use Rattle.planfile.proofs.FileLaws.{SameContent, holds_one}
 use Rattle.planfile.proofs.OneContent.{clear_short}
 use Rattle.desk.specs.Text.{Decimal, Fields, no_more, field, Line}
-use Rattle.desk.specs.Replies.{zeros, FileFault, told, CheckerSays, wrong_file, accepted, refused, PlannerGives, planned, Puts, CheckerPuts, PlannerPuts}
+use Rattle.desk.specs.Replies.{zeros, FileFault, told, CheckerSays, wrong_file, accepted}
+use Rattle.desk.specs.Replies.{refused, PlannerGives, planned, Puts, CheckerPuts, PlannerPuts}
 use Rattle.desk.proofs.LineLaws.{fewest_short}
 
 -- ---- text

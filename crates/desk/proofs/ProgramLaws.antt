@@ -48,7 +48,8 @@ use Rattle.planfile.proofs.FileLaws.{length_file}
 use Rattle.planfile.proofs.LengthLaws.{sizes_most, schedule_ids}
 use Rattle.planfile.proofs.OneContent.{clear_short}
 use Rattle.desk.specs.Text.{NO}
-use Rattle.desk.specs.Replies.{zeros, told, subset, CheckerSays, wrong_file, accepted as says-ok, refused as says-no, CheckerPuts, planned as a-file, PlannerPuts, Puts}
+use Rattle.desk.specs.Replies.{zeros, told, subset, CheckerSays, wrong_file, accepted as says-ok}
+use Rattle.desk.specs.Replies.{refused as says-no, CheckerPuts, planned as a-file, PlannerPuts, Puts}
 use Rattle.desk.specs.Parts.{PutLine, Verdict, accepted, refused, Plan, planned, in_read, in_planned}
 use Rattle.desk.proofs.IdLaws.{no_ids}
 

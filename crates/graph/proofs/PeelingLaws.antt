@@ -286,7 +286,8 @@ offer_peel {o} {n} {c} {a} {m} {k} {q} {h} {t} {w} p (free l e z) =
 
     splits : (f : ℕ → ℕ) → among 512 (set m w false) f + Sent (set q t w) (t + 1) f ≡ among 512 a f
     splits f =
-        let x = among_less 512 w m (set m w false) f l e (get_or-set_same m w false false (mark_inside m w e)) (λ j d. sym (get_or-set_other m w j false false d)) in
+        let x = among_less 512 w m (set m w false) f l e (get_or-set_same m w false false (mark_inside m w e))
+        (λ j d. sym (get_or-set_other m w j false false d)) in
         let y : f (get_or (set q t w) t 0) ≡ f w = ap f (get_or-set_same q t w 0 room) in
         omega (arith, x, sent_more (set q t w) t f, sent_same q t w t f (omega arith), p.split f)
 
@@ -314,7 +315,11 @@ pub peeling_next : {o n c : List ℕ} {a m m₁ m₂ : List Bool} {k k₁ k₂ q
 peeling_next {m₂ = m₂} {k} {k₁} {k₂} {w = w} {u = u} v (p, l) e ew eu p₁ p₂ d₁ d₂ =
     record {
       peel = offer_peel (offer_peel (peel_next v p.peel l e ew eu p₁ p₂) d₁) d₂;
-      busy = record { counts = λ x b f. by_cases (ℕ_discrete x w) (λ i. by_one x i b f) (λ i. by_cases (ℕ_discrete x u) (λ j. by_other x j b f) (λ j. by_none x i j b f)) };
+      busy = record {
+        counts = λ x b f.
+            by_cases (ℕ_discrete x w) (λ i. by_one x i b f)
+            (λ i. by_cases (ℕ_discrete x u) (λ j. by_other x j b f) (λ j. by_none x i j b f));
+      };
     }
   where
     by_one : (x : ℕ) → x ≡ w → x < 512 → Marked m₂ x → 0 < get_or k₂ x 0
@@ -325,8 +330,14 @@ peeling_next {m₂ = m₂} {k} {k₁} {k₂} {w = w} {u = u} v (p, l) e ew eu p�
 
     by_none : (x : ℕ) → (x ≡ w → ⊥) → (x ≡ u → ⊥) → x < 512 → Marked m₂ x → 0 < get_or k₂ x 0
     by_none x i j b f =
-        omega
-        (arith, p.busy.counts x b (offer_shrinks d₁ x (offer_shrinks d₂ x f)), p₁.each x b, p₂.each x b, hits_none w x (λ y. i (sym y)), hits_none u x (λ y. j (sym y)))
+        omega (
+          arith,
+          p.busy.counts x b (offer_shrinks d₁ x (offer_shrinks d₂ x f)),
+          p₁.each x b,
+          p₂.each x b,
+          hits_none w x (λ y. i (sym y)),
+          hits_none u x (λ y. j (sym y)),
+        )
 
 pub peel_ends : {o n c : List ℕ} {a m : List Bool} {k q : List ℕ} {h t : ℕ} → Peeling o n c a m k q h t → t ≤ h → Peeled o n c a t
 peel_ends {o} {n} {c} {a} {m} {k} {q} {h} {t} p l = record { fewer = λ b. some b; all = λ b. none b }

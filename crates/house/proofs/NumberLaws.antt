@@ -21,7 +21,8 @@ use Prim.Native.Nat.{ℕ, zero, suc, ◌+◌, ◌*◌, ◌/◌, ◌%◌, ◌^◌
 use mathlib.Core.Path.{◌≡◌, refl, sym, ap, ◌∙◌}
 use mathlib.Core.Bool.{Bool, true, false, cond}
 use mathlib.Core.List.{List, [], ◌∷◌, ◌++◌}
-use native.Mathlib.Nat.{mul-suc, mul-zero, add_comm, zero-add, add-suc, add-zero, suc-add, mul_comm, mul_assoc, mul-le-mul_left, div-lt_iff_lt-mul, pow-suc, one-le-pow}
+use native.Mathlib.Nat.{mul-suc, mul-zero, add_comm, zero-add, add-suc, add-zero, suc-add}
+use native.Mathlib.Nat.{mul_comm, mul_assoc, mul-le-mul_left, div-lt_iff_lt-mul, pow-suc, one-le-pow}
 use native.Mathlib.Numerals.{add-one}
 use native.Mathlib.Decide.{dec_lt}
 use native.Mathlib.Omega.{arith}

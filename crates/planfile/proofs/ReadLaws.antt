@@ -40,7 +40,8 @@ use Rattle.house.proofs.NumberLaws.{Under}
 use Rattle.plans.specs.Replies.{overlaid}
 use Rattle.planfile.specs.File.{size_at, WrongAt, cut, after, Expects, at_front, behind, Ended}
 use Rattle.planfile.specs.Parts.{AllRight, Scans, all_right, one_wrong, Room, Fine, Ready, RoundsIn, Copied}
-use Rattle.planfile.specs.Replies.{RecordIs, ended, wrong_at, stands, ReadFault, short_old, short_new, short_ids, short_sizes, long, wrong, few, many, Reads, refused, content}
+use Rattle.planfile.specs.Replies.{RecordIs, ended, wrong_at, stands, ReadFault, short_old, short_new, short_ids}
+use Rattle.planfile.specs.Replies.{short_sizes, long, wrong, few, many, Reads, refused, content}
 use Rattle.planfile.specs.declared.read.ReadReply.TheVariants.{Content, NotRead}
 use Rattle.planfile.specs.declared.read.Counts.{Counts}
 use Rattle.planfile.specs.declared.read.Scan.TheVariants.{Bodies, WrongFrom}
@@ -48,7 +49,8 @@ use Rattle.planfile.specs.declared.record.RecordReply.{RecordReply}
 use Rattle.planfile.specs.declared.record.RecordReply.TheVariants.{Body, Wrong, End}
 use Rattle.planfile.specs.contracts.record.RecordReply.{the_type}
 use Rattle.planfile.proofs.OrderLaws.{before_wrong, before_length}
-use Rattle.planfile.proofs.RecordLaws.{Right, right, right_not, body, length_body, next_expected, expects_before, expects_same, expects_place, expects_kind}
+use Rattle.planfile.proofs.RecordLaws.{Right, right, right_not, body, length_body}
+use Rattle.planfile.proofs.RecordLaws.{next_expected, expects_before, expects_same, expects_place, expects_kind}
 use Rattle.planfile.proofs.FileLaws.{right_at, not_ended, pair_held, body_whole, body_under, body_entries, rounds_none, rounds_more}
 use Rattle.planfile.proofs.StoreLaws.{overlaid_none, length_overlaid, overlaid_bytes, overlaid_more, overlaid_put}
 
@@ -179,7 +181,9 @@ module _ {f : List ℕ} {p : ℕ} {ids₀ sizes₀ : List ℕ} (r : Ready f p id
     copied_round :
         Under 256 f
         → q < length f
-        → Copying f p ids₀ sizes₀ (q + 4 + size_at f q) (count + size_at f q / 2) (rounds + 1) (sets ids (2 * count) (body f q)) (put_number 2 sizes rounds (size_at f q / 2))
+        → Copying f p ids₀ sizes₀ (q + 4 + size_at f q) (count + size_at f q / 2) (rounds + 1)
+        (sets ids (2 * count) (body f q))
+        (put_number 2 sizes rounds (size_at f q / 2))
     copied_round u h =
         let w = copying_right h in
         record {

@@ -119,103 +119,110 @@ putting_none file at ids sizes =
       stored = refl;
     }
 
-module _ {file₀ : List ℕ} {at : ℕ} {ids sizes : List ℕ} {next from t : ℕ} {file : List ℕ} (r : RoundsRoom file₀ at ids sizes) (g : Putting file₀ at ids sizes next from t file) where
-  pub putting_length : length file ≡ length file₀
-  putting_length = ap length g.stored ∙ length-sets file₀ at (round_records (take (up_to (entries sizes) t) (entries ids)) (take t (entries sizes)))
+module _
+    {file₀ : List ℕ} {at : ℕ} {ids sizes : List ℕ} {next from t : ℕ} {file : List ℕ}
+    (r : RoundsRoom file₀ at ids sizes)
+    (g : Putting file₀ at ids sizes next from t file)
+  where
+    pub putting_length : length file ≡ length file₀
+    putting_length = ap length g.stored ∙ length-sets file₀ at (round_records (take (up_to (entries sizes) t) (entries ids)) (take t (entries sizes)))
 
-  -- the offset, counted
-  next_long : next ≡ at + 2 * up_to (entries sizes) t + 4 * t
-  next_long =
-      let u = up_to (entries sizes) t in
-      let m = up_to_fits (entries sizes) t in
-      let a : length (take u (entries ids)) ≡ u = length-take-le u (entries ids) (omega (arith, r.sums)) in
-      let b : length (take t (entries sizes)) ≡ t = length-take-le t (entries sizes) g.within in
-      omega (arith, g.next_is, length_rounds (take u (entries ids)) (take t (entries sizes)) (sym a))
+    -- the offset, counted
+    next_long : next ≡ at + 2 * up_to (entries sizes) t + 4 * t
+    next_long =
+        let u = up_to (entries sizes) t in
+        let m = up_to_fits (entries sizes) t in
+        let a : length (take u (entries ids)) ≡ u = length-take-le u (entries ids) (omega (arith, r.sums)) in
+        let b : length (take t (entries sizes)) ≡ t = length-take-le t (entries sizes) g.within in
+        omega (arith, g.next_is, length_rounds (take u (entries ids)) (take t (entries sizes)) (sym a))
 
-  module _ {z : ℕ} (h : t < length (entries sizes)) (ez : z ≡ get_or (entries sizes) t 0) where
-    -- the round's ids are within the ids
-    pub putting_within : from + 2 * z ≤ length ids
-    putting_within =
-        omega (arith, g.from_is, up_to_fits (entries sizes) t, r.sums, length_entries ids)
+    module _ {z : ℕ} (h : t < length (entries sizes)) (ez : z ≡ get_or (entries sizes) t 0) where
+      -- the round's ids are within the ids
+      pub putting_within : from + 2 * z ≤ length ids
+      putting_within =
+          omega (arith, g.from_is, up_to_fits (entries sizes) t, r.sums, length_entries ids)
 
-    part_length : length (take (from + 2 * z - from) (drop from ids)) ≡ 2 * z
-    part_length =
-        let e : from + 2 * z - from ≡ 2 * z = omega arith in
-        ap (λ (k : ℕ). length (take k (drop from ids))) e
-        ∙ length-take-le (2 * z) (drop from ids) (omega (arith, length-drop from ids, putting_within))
+      part_length : length (take (from + 2 * z - from) (drop from ids)) ≡ 2 * z
+      part_length =
+          let e : from + 2 * z - from ≡ 2 * z = omega arith in
+          ap (λ (k : ℕ). length (take k (drop from ids))) e
+          ∙ length-take-le (2 * z) (drop from ids) (omega (arith, length-drop from ids, putting_within))
 
-    pub putting_room : RecordRoom file next (take (from + 2 * z - from) (drop from ids))
-    putting_room =
+      pub putting_room : RecordRoom file next (take (from + 2 * z - from) (drop from ids))
+      putting_room =
+          record {
+            room =
+                omega (
+                  arith,
+                  part_length,
+                  next_long,
+                  putting_length,
+                  r.room,
+                  length_rounds (entries ids) (entries sizes) r.sums,
+                  up_to_fits (entries sizes) t,
+                  r.sums,
+                );
+            short = omega (arith, part_length, putting_within, r.short);
+          }
+
+      part_is :
+          Under 256 ids
+          → take (from + 2 * z - from) (drop from ids)
+          ≡ encode 2 (take (get_or (entries sizes) t 0) (drop (up_to (entries sizes) t) (entries ids)))
+      part_is u =
+          let e : from + 2 * z - from ≡ 2 * get_or (entries sizes) t 0 = omega arith in
+          let w = up_to (entries sizes) t in
+          let y = get_or (entries sizes) t 0 in
+          ap (λ (k : ℕ). take k (drop from ids)) e
+          ∙ ap (λ (k : ℕ). take (2 * y) (drop k ids)) g.from_is
+          ∙ ap (λ (x : List ℕ). take (2 * y) (drop (2 * w) x)) (sym (encode_entries ids r.whole u))
+          ∙ ap (take (2 * y)) (sym (encode_drop w (entries ids)))
+          ∙ sym (encode_take y (drop w (entries ids)))
+
+      pub putting_more :
+          {n : ℕ} {f' : List ℕ}
+          → Under 256 ids
+          → PutRecord file next 4 (take (from + 2 * z - from) (drop from ids)) n f'
+          → Putting file₀ at ids sizes n (from + 2 * z) (t + 1) f'
+      putting_more {n} {f'} u p =
+          let es = entries ids in
+          let ys = entries sizes in
+          let done = round_records (take (up_to ys t) es) (take t ys) in
+          let b = encode 2 (take (get_or ys t 0) (drop (up_to ys t) es)) in
+          let more : round_records (take (up_to ys (t + 1)) es) (take (t + 1) ys) ≡ done ++ record_of 4 b =
+          rw (add-one t) (rounds_next es ys t r.sums h) in
+          record {
+            within = omega arith;
+            from_is = rw (add-one t) (omega (arith, g.from_is, up_to_suc ys t));
+            next_is =
+                omega (
+                  arith,
+                  p.next,
+                  g.next_is,
+                  ap length more,
+                  length-append done (record_of 4 b),
+                  record_head 4 b,
+                  ap length (part_is u),
+                );
+            stored =
+                p.stored
+                ∙ ap (λ (x : List ℕ). sets file next (record_of 4 x)) (part_is u)
+                ∙ ap (λ (x : List ℕ). sets x next (record_of 4 b)) g.stored
+                ∙ ap (λ (k : ℕ). sets (sets file₀ at done) k (record_of 4 b)) g.next_is
+                ∙ sym (sets_append done (record_of 4 b) file₀ at)
+                ∙ ap (sets file₀ at) (sym more);
+          }
+
+    pub putting_end : length (entries sizes) ≤ t → PutRounds file₀ at ids sizes next file
+    putting_end h =
+        let u : up_to (entries sizes) t ≡ length (entries ids) = up_to_all (entries sizes) t h ∙ r.sums in
+        let e : round_records (take (up_to (entries sizes) t) (entries ids)) (take t (entries sizes)) ≡ round_records (entries ids) (entries sizes) =
+        ap (λ (x : List ℕ). round_records x (take t (entries sizes))) (take_all (up_to (entries sizes) t) (entries ids) (omega arith))
+        ∙ ap (round_records (entries ids)) (take_all t (entries sizes) h) in
         record {
-          room =
-              omega (
-                arith,
-                part_length,
-                next_long,
-                putting_length,
-                r.room,
-                length_rounds (entries ids) (entries sizes) r.sums,
-                up_to_fits (entries sizes) t,
-                r.sums,
-              );
-          short = omega (arith, part_length, putting_within, r.short);
+          stored = g.stored ∙ ap (sets file₀ at) e;
+          next = g.next_is ∙ ap (λ (x : List ℕ). at + length x) e;
         }
-
-    part_is : Under 256 ids → take (from + 2 * z - from) (drop from ids) ≡ encode 2 (take (get_or (entries sizes) t 0) (drop (up_to (entries sizes) t) (entries ids)))
-    part_is u =
-        let e : from + 2 * z - from ≡ 2 * get_or (entries sizes) t 0 = omega arith in
-        let w = up_to (entries sizes) t in
-        let y = get_or (entries sizes) t 0 in
-        ap (λ (k : ℕ). take k (drop from ids)) e
-        ∙ ap (λ (k : ℕ). take (2 * y) (drop k ids)) g.from_is
-        ∙ ap (λ (x : List ℕ). take (2 * y) (drop (2 * w) x)) (sym (encode_entries ids r.whole u))
-        ∙ ap (take (2 * y)) (sym (encode_drop w (entries ids)))
-        ∙ sym (encode_take y (drop w (entries ids)))
-
-    pub putting_more :
-        {n : ℕ} {f' : List ℕ}
-        → Under 256 ids
-        → PutRecord file next 4 (take (from + 2 * z - from) (drop from ids)) n f'
-        → Putting file₀ at ids sizes n (from + 2 * z) (t + 1) f'
-    putting_more {n} {f'} u p =
-        let es = entries ids in
-        let ys = entries sizes in
-        let done = round_records (take (up_to ys t) es) (take t ys) in
-        let b = encode 2 (take (get_or ys t 0) (drop (up_to ys t) es)) in
-        let more : round_records (take (up_to ys (t + 1)) es) (take (t + 1) ys) ≡ done ++ record_of 4 b =
-        rw (add-one t) (rounds_next es ys t r.sums h) in
-        record {
-          within = omega arith;
-          from_is = rw (add-one t) (omega (arith, g.from_is, up_to_suc ys t));
-          next_is =
-              omega (
-                arith,
-                p.next,
-                g.next_is,
-                ap length more,
-                length-append done (record_of 4 b),
-                record_head 4 b,
-                ap length (part_is u),
-              );
-          stored =
-              p.stored
-              ∙ ap (λ (x : List ℕ). sets file next (record_of 4 x)) (part_is u)
-              ∙ ap (λ (x : List ℕ). sets x next (record_of 4 b)) g.stored
-              ∙ ap (λ (k : ℕ). sets (sets file₀ at done) k (record_of 4 b)) g.next_is
-              ∙ sym (sets_append done (record_of 4 b) file₀ at)
-              ∙ ap (sets file₀ at) (sym more);
-        }
-
-  pub putting_end : length (entries sizes) ≤ t → PutRounds file₀ at ids sizes next file
-  putting_end h =
-      let u : up_to (entries sizes) t ≡ length (entries ids) = up_to_all (entries sizes) t h ∙ r.sums in
-      let e : round_records (take (up_to (entries sizes) t) (entries ids)) (take t (entries sizes)) ≡ round_records (entries ids) (entries sizes) =
-      ap (λ (x : List ℕ). round_records x (take t (entries sizes))) (take_all (up_to (entries sizes) t) (entries ids) (omega arith))
-      ∙ ap (round_records (entries ids)) (take_all t (entries sizes) h) in
-      record {
-        stored = g.stored ∙ ap (sets file₀ at) e;
-        next = g.next_is ∙ ap (λ (x : List ℕ). at + length x) e;
-      }
 
 -- ---- the whole file
 
@@ -277,7 +284,12 @@ module _ {old new : List ℕ} {mode : ℕ} {ids sizes file : List ℕ} (w : Writ
               short = omega (arith, total, length_entries ids, sound.whole_ids.even);
             }
 
-        pub file_stored : {n : ℕ} {f' : List ℕ} → Under 256 old → Under 256 new → PutRounds h r ids sizes n f' → PutFile old new mode ids sizes file n f'
+        pub file_stored :
+            {n : ℕ} {f' : List ℕ}
+            → Under 256 old
+            → Under 256 new
+            → PutRounds h r ids sizes n f'
+            → PutFile old new mode ids sizes file n f'
         file_stored {n} {f'} uo un k =
             let o = record_of 1 old in
             let m = record_of 2 new in

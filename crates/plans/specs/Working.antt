@@ -39,7 +39,8 @@
 --   Entered c ids m v c' ids' m' == v is written behind m ids and placed, if it is of the present round
 --   Entering c0 ids0 m0 c ids m v == the same of each node below v
 --   Wrote c ids sizes k m c' ids' sizes' k' m' == the present round is written, if it has a node, and is placed
-use Rattle.std.specs.Prelude.{ℕ, zero, suc, ◌+◌, ◌<◌, ◌≤◌, ◌≡◌, Bool, true, false, not, cond, ◌&&◌, ◌||◌, List, [], ◌∷◌, ◌++◌, reverse, length, get_or, set, take, drop, eqb, ltb}
+use Rattle.std.specs.Prelude.{ℕ, zero, suc, ◌+◌, ◌<◌, ◌≤◌, ◌≡◌, Bool, true, false, not, cond, ◌&&◌}
+use Rattle.std.specs.Prelude.{◌||◌, List, [], ◌∷◌, ◌++◌, reverse, length, get_or, set, take, drop, eqb, ltb}
 use Rattle.house.specs.Numbers.{put_number}
 use Rattle.graph.specs.Graph.{Choice, old, new, either, Path, Around}
 use Rattle.graph.specs.Search.{Steps, Reached, Marked, Cyclic}

@@ -25,7 +25,8 @@ use Rattle.house.specs.Numbers.{entries}
 use Rattle.house.proofs.NumberLaws.{length_bytes, length_encode, put_number_in}
 use Rattle.routes.specs.declared.pair.Judged.TheVariants.{Sound, Faulty}
 use Rattle.rounds.specs.States.{Fault, FirstBad, Named}
-use Rattle.rounds.specs.Replies.{ChangeFault, JudgesChange, sound, faulty, CheckFault, short_set, change, written, Checks, refused, begins_faulty, shows}
+use Rattle.rounds.specs.Replies.{ChangeFault, JudgesChange, sound, faulty, CheckFault, short_set}
+use Rattle.rounds.specs.Replies.{change, written, Checks, refused, begins_faulty, shows}
 use Rattle.rounds.specs.Working.{Refuses, begins, shown}
 use Rattle.rounds.specs.declared.check.Checked.{Checked}
 use Rattle.rounds.specs.declared.check.Checked.TheVariants.{Refused}

@@ -267,7 +267,10 @@ pub both_handed : {o n : List ℕ} → Good o n → (v : ℕ) → value o v ≡ 
 both_handed g v e = rw (handed_destination g.old v e ∙ g.destinations) (value_destination g.new)
 
 module _ {o n : List ℕ} (g : Good o n) where
-  agreed : (v : ℕ) → (differs (rule o v) (rule n v) ≡ not (eqb (value o v) (value n v))) × (change_of (value o v) (value n v) ≡ change (rule o v) (rule n v))
+  agreed :
+      (v : ℕ)
+      → (differs (rule o v) (rule n v) ≡ not (eqb (value o v) (value n v)))
+      × (change_of (value o v) (value n v) ≡ change (rule o v) (rule n v))
   agreed v = agree (told g.old v) (told g.new v) (both_handed g v) (both_handed (good_swap g) v)
 
   pub due_values : (v : ℕ) → due o n v ≡ not (eqb (value o v) (value n v))
@@ -436,7 +439,11 @@ due_sum {o} {n} g v = go (ℕ_discrete v (source o))
     go (no e) = rw (ne_eqb v (source o) e) (omega (arith, differs_most (rule o v) (rule n v)))
 
 pub due_most : {o n : List ℕ} → Good o n → tally 512 (due o n) ≤ 509
-due_most {o} {n} g = ⊎_elim (λ x. omega (arith, sum, old, new, g.old.most, g.new.most)) (λ x. absurd (omega (arith, g.old.ids 0 (omega (arith, g.old.least))))) (tally_same 512 (source o))
+due_most {o} {n} g =
+    ⊎_elim
+    (λ x. omega (arith, sum, old, new, g.old.most, g.new.most))
+    (λ x. absurd (omega (arith, g.old.ids 0 (omega (arith, g.old.least)))))
+    (tally_same 512 (source o))
   where
     sum : tally 512 (due o n) + tally 512 (same (source o)) ≤ tally 512 (ruled o) + tally 512 (ruled n)
     sum = tally_sum 512 (due o n) (same (source o)) (ruled o) (ruled n) (λ v h. due_sum g v)

@@ -1,4 +1,3 @@
-use Prim.Native.Nat.{◌<◌}
 use native.Mathlib.Omega.{arith}
 use mathlib.Core.Path.{refl}
 use Rattle.graph.proofs.SearchLaws.{room_begins, room_bound, search_begins, leads_ends}

@@ -1,5 +1,4 @@
 -- `graph::offer` meets its contract: each return is one of the ways in which a number is offered.
-use Prim.Native.Nat.{◌<◌}
 use native.Mathlib.Omega.{arith}
 use Rattle.graph.specs.Working.{over, gone, busy, free}
 use Rattle.graph.proofs.offer.Goals as goal

@@ -1,4 +1,3 @@
-use Prim.Native.Nat.{◌<◌}
 use native.Mathlib.Omega.{arith}
 use Rattle.graph.proofs.PeelingLaws.{peel_begins, peel_bound, peel_ends}
 use Rattle.graph.proofs.peeled.Goals as goal

@@ -1,4 +1,3 @@
-use Prim.Native.Nat.{◌<◌}
 use native.Mathlib.Omega.{arith}
 use Rattle.graph.proofs.SearchLaws.{room_begins, room_bound, search_begins, search_ends}
 use Rattle.graph.proofs.search.Goals as goal

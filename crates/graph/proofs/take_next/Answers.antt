@@ -1,6 +1,6 @@
 -- `graph::take_next` meets its contract: the two steps from the node at the head are still counted, so both counts
 -- can be lowered; then the head moves on, and offering the two next values leaves no node with a count of 0.
-use Prim.Native.Nat.{◌<◌, ◌+◌}
+use Prim.Native.Nat.{◌+◌}
 use native.Mathlib.Omega.{arith}
 use Rattle.graph.specs.Working.{Peel}
 use Rattle.graph.proofs.PeelingLaws.{peel_bound, peel_room, peel_next, lower_one, lower_other, offer_peel, peeling_next}

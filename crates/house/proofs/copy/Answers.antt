@@ -1,10 +1,10 @@
 use Prim.Native.Nat.{ℕ, ◌+◌}
 use mathlib.Core.List.{List}
-use mathlib.Core.Path.{◌≡◌, refl, sym, ◌∙◌, ap}
+use mathlib.Core.Path.{refl, sym, ◌∙◌, ap}
 use native.Mathlib.Numerals.{add-one}
 use native.Mathlib.Omega.{arith}
-use lib.ListN.{length, take, set, get_or}
-use lib.Seq.{sets, length-sets, take_all}
+use lib.ListN.{take, set, get_or}
+use lib.Seq.{sets, take_all}
 use Rattle.house.proofs.StoreLaws.{sets_more}
 use borrow.Author.Rules.{rules}
 use Rattle.house.proofs.copy.Goals as goal

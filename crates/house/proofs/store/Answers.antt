@@ -1,9 +1,8 @@
 -- `house::store` meets its contract: what there is no room for changes nothing.
 use Prim.Native.Nat.{◌-◌}
-use mathlib.Core.Path.{◌≡◌, sym, ◌∙◌}
+use mathlib.Core.Path.{◌∙◌}
 use native.Mathlib.Omega.{arith}
-use lib.ListN.{length, take}
-use lib.Seq.{length-take-le}
+use lib.ListN.{length}
 use Rattle.house.proofs.StoreLaws.{sets_past}
 use Rattle.house.proofs.store.Goals as goal
 

@@ -1,13 +1,11 @@
 -- `schedule::judge_rounds` meets its contract. What holds past each test is `Passed`: no refusal with a lower number applies. So the
 -- first failure of the next test gives the refusal that is given, and past the last test no refusal applies.
-use Prim.Native.Nat.{ℕ, ◌/◌, ◌≤◌}
-use mathlib.Core.Path.{◌≡◌, ap, ◌∙◌, sym}
-use mathlib.Core.Bool.{Bool, true}
+use Prim.Native.Nat.{ℕ, ◌/◌}
+use mathlib.Core.Path.{ap, ◌∙◌, sym}
 use mathlib.Core.List.{List}
 use native.Mathlib.Numerals.{add-one}
 use native.Mathlib.Omega.{arith}
 use borrow.Author.Tests.{eqb-true, eqb-false}
-use lib.Dec.{eqb}
 use lib.ListN.{length}
 use Rattle.house.specs.Numbers.{entries}
 use Rattle.house.specs.declared.Refusal.TheVariants.{RoundEmpty, NotRising, NotDue, Again}
@@ -35,7 +33,8 @@ use Rattle.rounds.proofs.TestLaws.{
   answers_first,
 }
 use Rattle.rounds.proofs.schedule.judge_rounds.Goals as goal
-use Rattle.rounds.proofs.schedule.judge_rounds.Goals.{Else-not-sums_to, Else-hollow-sizes, Else-fall-n, After-due_nodes-due, Else-stray-n, Else-twice-n}
+use Rattle.rounds.proofs.schedule.judge_rounds.Goals.{Else-not-sums_to, Else-hollow-sizes, Else-fall-n}
+use Rattle.rounds.proofs.schedule.judge_rounds.Goals.{After-due_nodes-due, Else-stray-n, Else-twice-n}
 
 -- the tests passed before the test of the refusal k
 abbrev Past : List ℕ → List ℕ → List ℕ → List ℕ → ℕ → ℕ → Type 0

@@ -4,7 +4,7 @@ use Prim.Native.Nat.{ℕ, ◌%◌}
 use mathlib.Core.Path.{◌≡◌}
 use mathlib.Core.List.{List}
 use lib.ListN.{length}
-use Rattle.house.specs.Numbers.{entries, Whole}
+use Rattle.house.specs.Numbers.{Whole}
 use Rattle.routes.specs.Routes.{old_side, new_side}
 use Rattle.routes.specs.Tests.{lengths, ids, repeats, ends, Fails, Spotted}
 use Rattle.routes.specs.declared.pair.Spot.TheVariants.{Nowhere}
