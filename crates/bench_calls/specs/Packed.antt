@@ -7,13 +7,10 @@
 --   refusal_packed, read_packed, write_packed == the number of a reply
 --   ReadCall .. r o' n' i' z' == r is what `bench_read` returns, and the rest what the lent slices hold then
 --   WriteCall .. r f'  == r is what `bench_write` returns, and f' what the lent slice holds then
-use Rattle.std.specs.Prelude.{ℕ, ◌+◌, ◌*◌, min, ◌≡◌, List}
+use Rattle.std.specs.Prelude.{ℕ, ◌+◌, ◌*◌, min, ◌≡◌, List, Result, Ok, Err}
 use Rattle.house.specs.declared.Refusal.{Refusal}
 use Rattle.house.specs.Refusals.{number, site, place}
-use Rattle.planfile.specs.declared.read.ReadReply.{ReadReply}
-use Rattle.planfile.specs.declared.read.ReadReply.TheVariants.{Content, NotRead}
-use Rattle.planfile.specs.declared.write.WriteReply.{WriteReply}
-use Rattle.planfile.specs.declared.write.WriteReply.TheVariants.{Written, NotWritten}
+use Rattle.planfile.specs.declared.read.Content.{Content}
 use Rattle.planfile.specs.Replies.{Reads, Writes}
 
 unfoldable pub packed : ℕ → ℕ → ℕ → ℕ → ℕ → ℕ → ℕ
@@ -23,20 +20,20 @@ packed a b c d e f =
 abbrev pub refusal_packed : Refusal → ℕ
 refusal_packed r = packed (number r) (site r) 0 (place r) 0 0
 
-abbrev pub read_packed : ReadReply → ℕ
-read_packed (Content olds news mode count rounds) = packed 0 olds news count rounds mode
-read_packed (NotRead r) = refusal_packed r
+abbrev pub read_packed : Result Content Refusal → ℕ
+read_packed (Ok c) = packed 0 c.olds c.news c.ids c.rounds c.mode
+read_packed (Err r) = refusal_packed r
 
-abbrev pub write_packed : WriteReply → ℕ
-write_packed (Written size) = packed 0 0 0 size 0 0
-write_packed (NotWritten r) = refusal_packed r
+abbrev pub write_packed : Result ℕ Refusal → ℕ
+write_packed (Ok size) = packed 0 0 0 size 0 0
+write_packed (Err r) = refusal_packed r
 
 pub record ReadCall (f old new ids sizes : List ℕ) (r : ℕ) (o' n' i' z' : List ℕ) : Type 0 where
-  pub reply : ReadReply
+  pub reply : Result Content Refusal
   pub replied : Reads f old new ids sizes reply o' n' i' z'
   pub in_one : r ≡ read_packed reply
 
 pub record WriteCall (old new : List ℕ) (mode : ℕ) (ids sizes file : List ℕ) (r : ℕ) (f' : List ℕ) : Type 0 where
-  pub reply : WriteReply
+  pub reply : Result ℕ Refusal
   pub replied : Writes old new mode ids sizes file reply f'
   pub in_one : r ≡ write_packed reply

@@ -6,9 +6,8 @@ ghost use Rattle.std.specs.Prelude.{min, ◌≡◌};
 ghost use Rattle.graph.specs.Search.{Reached, Cyclic};
 ghost use Rattle.bench_calls.specs.Packed.{packed, refusal_packed, ReadCall, WriteCall};
 
-use house::Refusal;
-use planfile::read::ReadReply;
-use planfile::write::WriteReply;
+use graph::Graph;
+use house::{Refusal, Told};
 
 // Writes the marks of what is reached from start.
 #[unsafe(no_mangle)]
@@ -21,7 +20,7 @@ pub extern "C" fn bench_reach(
 )
     ensures { Reached old.now new.now choice.now start marks.new }
 {
-    *marks = graph::reach(old, new, choice, start);
+    *marks = Graph { old, new, choice }.reach(start);
 }
 
 // Whether a closed path lies within the set.
@@ -34,18 +33,14 @@ pub extern "C" fn bench_cyclic(
 ) -> bool
     ensures { Cyclic old.now new.now choice.now alive.now result }
 {
-    graph::cyclic(old, new, choice, alive)
+    Graph { old, new, choice }.cyclic(alive)
 }
 
 // A number, or the most that there is room for.
 fn cap(x: usize, most: u64) -> u64
     ensures { result ≡ min x most }
 {
-    let n = x as u64;
-    if n < most {
-        return n;
-    }
-    most
+    most.min(x as u64)
 }
 
 // Six numbers as one.
@@ -60,7 +55,7 @@ fn pack(a: usize, b: usize, c: usize, d: usize, e: usize, f: usize) -> u64
 fn refused(r: Refusal) -> u64
     ensures { result ≡ refusal_packed r }
 {
-    let told = house::tell(r);
+    let told = Told::from(r);
     pack(told.number, told.site, 0, told.place, 0, 0)
 }
 
@@ -76,8 +71,8 @@ pub extern "C" fn bench_read(
     ensures { ReadCall file.now old.old new.old ids.old sizes.old result old.new new.new ids.new sizes.new }
 {
     match planfile::read::read(file, old, new, ids, sizes) {
-        ReadReply::Content(a, b, mode, n, k) => pack(0, a, b, n, k, mode as usize),
-        ReadReply::NotRead(r) => refused(r),
+        Ok(c) => pack(0, c.olds, c.news, c.ids, c.rounds, usize::from(c.mode)),
+        Err(r) => refused(r),
     }
 }
 
@@ -94,7 +89,7 @@ pub extern "C" fn bench_write(
     ensures { WriteCall old.now new.now mode ids.now sizes.now file.old result file.new }
 {
     match planfile::write::write(old, new, mode, ids, sizes, file) {
-        WriteReply::Written(size) => pack(0, 0, 0, size, 0, 0),
-        WriteReply::NotWritten(r) => refused(r),
+        Ok(size) => pack(0, 0, 0, size, 0, 0),
+        Err(r) => refused(r),
     }
 }

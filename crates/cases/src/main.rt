@@ -5,12 +5,11 @@
 // 1,264. Each request is answered by a line on standard output.
 #![tactic(auto)]
 
-ghost use Rattle.std.specs.Prelude.{◌≡◌, nat_abs};
-
-use house::Refusal;
-use routes::jump::Jumped;
-use routes::pair::Judged;
-use routes::walk::Walked;
+use house::{Refusal, Told, entry};
+use routes::jump::{NodeJumps, jumps, letter};
+use routes::pair::judge;
+use routes::walk::{Walked, walk};
+use std::io;
 use std::io::Write;
 
 // Answers whole requests, until one is missing; a million at most, so that the program ends.
@@ -21,128 +20,53 @@ fn main(rt: HostRuntime) {
         if got < 2048 {
             return;
         }
-        answer(&mut rt.stdout(), &frame);
+        let _ = answer(&mut rt.stdout(), &frame);
     }
 }
 
 // Answers one request.
-fn answer<W: Write>(out: &mut W, frame: &[u8]) {
-    let what = house::entry(frame, 0);
-    let node = house::entry(frame, 1);
-    let old = part(frame, 16, house::entry(frame, 2));
-    let new = part(frame, 640, house::entry(frame, 3));
-    let set = part(frame, 1264, house::entry(frame, 4));
-    match what {
-        1 => judgement(out, old, new),
-        2 => both_jumps(out, old, new, node),
-        _ => one_walk(out, old, new, set),
+fn answer<W: Write>(out: &mut W, frame: &[u8]) -> io::Result<()> {
+    let node = entry(frame, 1);
+    let old = part(frame, 16, entry(frame, 2));
+    let new = part(frame, 640, entry(frame, 3));
+    let set = part(frame, 1264, entry(frame, 4));
+    match entry(frame, 0) {
+        1 => match judge(old, new) {
+            Ok(()) => writeln!(out, "good"),
+            Err(r) => refused(out, r),
+        },
+        2 => match jumps(old, new, node) {
+            Ok(by) => both_jumps(out, by),
+            Err(r) => refused(out, r),
+        },
+        _ => match walk(old, new, set) {
+            Ok(Walked::Arrived(hops)) => writeln!(out, "arrived {hops}"),
+            Ok(Walked::Dropped(node, hops)) => writeln!(out, "dropped {node} {hops}"),
+            Ok(Walked::Looped(node, hops)) => writeln!(out, "looped {node} {hops}"),
+            Err(r) => refused(out, r),
+        },
     }
-    say(out, b"\n");
 }
 
 // The `size` bytes of a request from `at`; none where it has not as many.
 fn part(frame: &[u8], at: usize, size: u16) -> &[u8] {
-    let size = size as usize;
-    if at <= frame.len() {
-        if size <= frame.len() - at {
-            &frame[at..at + size]
-        } else {
-            &frame[..0]
-        }
-    } else {
-        &frame[..0]
-    }
+    let tail = frame.get(at..).unwrap_or(&[]);
+    tail.get(..usize::from(size)).unwrap_or(&[])
 }
 
-fn judgement<W: Write>(out: &mut W, old: &[u8], new: &[u8]) {
-    let judged = routes::pair::judge(old, new);
-    match judged {
-        Judged::Sound => say(out, b"good"),
-        Judged::Faulty(r) => refused(out, r),
-    }
+// Two jumps, each with a sign where it goes backward, and their letters.
+fn both_jumps<W: Write>(out: &mut W, by: NodeJumps) -> io::Result<()> {
+    let old_order = by.old_order;
+    let new_order = by.new_order;
+    let old_letter = char::from(letter(old_order));
+    let new_letter = char::from(letter(new_order));
+    writeln!(
+        out,
+        "jumps {old_order} {new_order} {old_letter}{new_letter}"
+    )
 }
 
-fn both_jumps<W: Write>(out: &mut W, old: &[u8], new: &[u8], node: u16) {
-    let jumped = routes::jump::jumps(old, new, node);
-    match jumped {
-        Jumped::By(a, b) => {
-            say(out, b"jumps");
-            signed(out, a);
-            signed(out, b);
-            say(out, b" ");
-            letter(out, a);
-            letter(out, b);
-        }
-        Jumped::NoJumps(r) => refused(out, r),
-    }
-}
-
-fn one_walk<W: Write>(out: &mut W, old: &[u8], new: &[u8], set: &[u8]) {
-    let walked = routes::walk::walk(old, new, set);
-    match walked {
-        Walked::Arrived(hops) => {
-            say(out, b"arrived");
-            number(out, hops);
-        }
-        Walked::Dropped(node, hops) => {
-            say(out, b"dropped");
-            number(out, node);
-            number(out, hops);
-        }
-        Walked::Looped(node, hops) => {
-            say(out, b"looped");
-            number(out, node);
-            number(out, hops);
-        }
-        Walked::Refused(r) => refused(out, r),
-    }
-}
-
-fn refused<W: Write>(out: &mut W, r: Refusal) {
-    let told = house::tell(r);
-    say(out, b"NO");
-    number(out, told.number);
-    number(out, told.site);
-    number(out, told.place);
-}
-
-fn say<W: Write>(out: &mut W, text: &[u8]) {
-    let _ = out.write_all(text);
-}
-
-fn number<W: Write>(out: &mut W, n: usize) {
-    say(out, b" ");
-    decimal(out, n as u64);
-}
-
-fn decimal<W: Write>(out: &mut W, n: u64) {
-    let mut text = [0u8; 20];
-    let k = io::decimal(n, &mut text);
-    say(out, &text[..k]);
-}
-
-// A jump, with its sign where it goes backward.
-fn signed<W: Write>(out: &mut W, jump: i32) {
-    if jump < 0 {
-        say(out, b" -");
-    } else {
-        say(out, b" ");
-    }
-    decimal(out, size(jump));
-}
-
-// A jump without its sign. In 64 bits each one can be turned around.
-fn size(jump: i32) -> u64
-    ensures { result ≡ nat_abs jump }
-{
-    if jump < 0 {
-        (0 - jump as i64) as u64
-    } else {
-        jump as u64
-    }
-}
-
-fn letter<W: Write>(out: &mut W, jump: i32) {
-    let text = [routes::jump::letter(jump)];
-    say(out, &text);
+fn refused<W: Write>(out: &mut W, r: Refusal) -> io::Result<()> {
+    let told = Told::from(r);
+    writeln!(out, "NO {told}")
 }

@@ -7,6 +7,8 @@
 --   no_means         == where it says NO, the file is not sound
 --   planner_ok       == what the planner writes is a NO line, or a file of which the checker says OK
 --   planned_ok       == it is the file, with the rounds of the plan, for each good pair and each mode, whatever rounds are read
+use Rattle.std.specs.Prelude.{Ok}
+use Rattle.rounds.specs.declared.check.Accepted.{Accepted}
 use Prim.Native.Nat.{ℕ, ◌/◌, ◌<◌, ◌≤◌}
 use mathlib.Core.Path.{◌≡◌, refl, sym, ap}
 use mathlib.Core.List.{List, [], ◌∷◌}
@@ -28,7 +30,6 @@ use Rattle.routes.proofs.PairLaws.{clear_good, good_clear}
 use Rattle.rounds.specs.Schedule.{Schedule}
 use Rattle.rounds.specs.States.{Passes}
 use Rattle.rounds.specs.Replies.{CheckFault, short_set, change, Checks, passes}
-use Rattle.rounds.specs.declared.check.Checked.TheVariants.{Accepted}
 use Rattle.rounds.proofs.ScheduleLaws.{SoundChange, clear_change, change_clear}
 use Rattle.plans.specs.Plan.{PlanRounds, ids_of, sizes_of}
 use Rattle.plans.specs.Replies.{PlanFault, short_ids, short_sizes, judged, mode_over}
@@ -83,9 +84,9 @@ module _ {f o n is zs : List ℕ} {mode : ℕ} (h : Holds f o n mode is zs) (l :
   -- ---- the checker
 
   accepted_sound :
-      {rounds dues : ℕ} {set ns : List ℕ}
-      → Checks (encode 2 o) (encode 2 n) mode (encode 2 is) (encode 2 zs) (zeros 64) (Accepted rounds dues) set
-      → ns ≡ rounds ∷ dues ∷ []
+      {a : Accepted} {set ns : List ℕ}
+      → Checks (encode 2 o) (encode 2 n) mode (encode 2 is) (encode 2 zs) (zeros 64) (Ok a) set
+      → ns ≡ a.rounds ∷ a.dues ∷ []
       → Sound f ns
   accepted_sound (passes k p r d e) x =
       let s = clear_change (record { clear = λ q c. k.clear q (change c) }) in
@@ -136,9 +137,9 @@ module _ {f o n is zs : List ℕ} {mode : ℕ} (h : Holds f o n mode is zs) (l :
       → mode ≤ 1
       → Schedule o n is zs
       → Passes mode o n is zs
-      → Checks (encode 2 o) (encode 2 n) mode (encode 2 is) (encode 2 zs) (zeros 64) (Accepted (length zs) (tally 512 (due o n))) (zeros 64)
+      → Checks (encode 2 o) (encode 2 n) mode (encode 2 is) (encode 2 zs) (zeros 64) (Ok (record { rounds = length zs; dues = tally 512 (due o n) })) (zeros 64)
   sound_accepted g m s p =
-      passes {dues = tally 512 (due o n)} (record { clear = none }) (rw (back_old, back_new, back_ids, back_sizes) p) (ap length (sym back_sizes))
+      passes {a = record { rounds = length zs; dues = tally 512 (due o n) }} (record { clear = none }) (rw (back_old, back_new, back_ids, back_sizes) p) (ap length (sym back_sizes))
       (rw (back_old, back_new)) refl
     where
       none : (q : Refusal) → CheckFault (encode 2 o) (encode 2 n) mode (encode 2 is) (encode 2 zs) (zeros 64) q → ⊥

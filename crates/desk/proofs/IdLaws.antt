@@ -1,27 +1,32 @@
--- Laws on the ids of a set, stored one after the other.
+-- Laws on the ids of a set, put one after the other.
 --
 --   none_between     == where no id from j on to k is in a set, those below k are those below j
---   lowest_above     == the lowest id from a given one on is not below it
---   Listing out at ws id next out' == the ids of the set ws below id are stored from the offset at on, next is the offset behind
---                       them, and id is the next one, or 512
+--   Listing out at ws from next out' == the ids of the set ws below `from` are stored from the offset at on, and next is the offset
+--                       behind them
 --   listing_none     == before the first id
---   listing_more     == one id more
+--   listing_more     == one id more, the lowest that is not below `from`
 --   listing_end      == all ids
 --   no_ids           == a set of no ids has none to list
+use Rattle.std.specs.Prelude.{Some, None}
 use Prim.Native.Nat.{ℕ, zero, suc, ◌+◌, ◌*◌, ◌<◌, ◌≤◌}
-use mathlib.Core.Path.{◌≡◌, ◌∙◌}
-use mathlib.Core.Bool.{true, false}
+use mathlib.Core.Path.{◌≡◌, refl, ◌∙◌}
+use mathlib.Core.Bool.{Bool, true, false}
 use mathlib.Core.List.{List, [], ◌∷◌, append-nil}
-use native.Mathlib.Decide.{ℕ_discrete, dec_lt}
+use native.Mathlib.Decide.{ℕ_discrete}
 use native.Mathlib.Omega.{arith}
-use Rattle.house.specs.Sets.{has, Lowest}
+use Rattle.house.specs.Finds.{Finds, found, nowhere}
+use Rattle.house.specs.Sets.{has}
 use Rattle.routes.specs.Walk.{State}
 use Rattle.plans.specs.Plan.{rising_below, rising}
 use Rattle.desk.specs.Parts.{PutFields}
 use Rattle.desk.proofs.LineLaws.{put_none, put_join, field_short}
 
+absent : (b : Bool) → (b ≡ true → ⊥) → b ≡ false
+absent true f = absurd (f refl)
+absent false f = refl
+
 none_between :
-    (R : State) (j k : ℕ) → j ≤ k → ((i : ℕ) → j ≤ i → i < k → R i ≡ false) → rising_below k R ≡ rising_below j R
+    (R : State) (j k : ℕ) → j ≤ k → ((i : ℕ) → j ≤ i → i < k → R i ≡ true → ⊥) → rising_below k R ≡ rising_below j R
 unfolding rising_below
 none_between R j zero h f = let e : j ≡ 0 = omega arith in rw e
 none_between R j (suc k) h f =
@@ -29,55 +34,42 @@ none_between R j (suc k) h f =
   where
     go : Dec (j ≡ suc k) → (j ≤ k → rising_below k R ≡ rising_below j R) → rising_below (suc k) R ≡ rising_below j R
     go (yes e) g = rw e
-    go (no d) g = rw (f k (omega arith) (omega arith)) (append-nil (rising_below k R) ∙ g (omega arith))
+    go (no d) g = rw (absent (R k) (f k (omega arith) (omega arith))) (append-nil (rising_below k R) ∙ g (omega arith))
 
-pub lowest_above : {ws : List ℕ} {from r : ℕ} → Lowest ws from r → from ≤ 512 → from ≤ r
-lowest_above {ws} {from} {r} x h = go (dec_lt r 512)
-  where
-    go : Dec (r < 512) → from ≤ r
-    go (yes l) = (x.found l).0
-    go (no l) = omega arith
+pub record Listing (out : List ℕ) (at : ℕ) (ws : List ℕ) (from next : ℕ) (out' : List ℕ) : Type 0 where
+  pub within : from ≤ 512
+  pub so_far : PutFields out at (rising_below from (has ws)) next out'
+  pub short : next ≤ at + 4 * from
 
-pub record Listing (out : List ℕ) (at : ℕ) (ws : List ℕ) (id next : ℕ) (out' : List ℕ) : Type 0 where
-  pub within : id ≤ 512
-  pub here : id < 512 → has ws id ≡ true
-  pub so_far : PutFields out at (rising_below id (has ws)) next out'
-  pub short : next ≤ at + 4 * id
-
-pub listing_none : (out : List ℕ) (at : ℕ) {ws : List ℕ} {id : ℕ} → Lowest ws 0 id → Listing out at ws id at out
+pub listing_none : (out : List ℕ) (at : ℕ) (ws : List ℕ) → Listing out at ws 0 at out
 unfolding rising_below
-listing_none out at {ws} {id} x =
-    record {
-      within = x.within;
-      here = λ l. (x.found l).1;
-      so_far = rw (none_between (has ws) 0 id (omega arith) x.none_before) (put_none out at);
-      short = omega arith;
-    }
+listing_none out at ws = record { within = omega arith; so_far = put_none out at; short = omega arith }
 
 pub listing_more :
-    {out ws o' o'' : List ℕ} {at id next r j : ℕ}
-    → Listing out at ws id next o'
-    → id < 512
+    {out ws o' o'' : List ℕ} {at from next r id : ℕ}
+    → Listing out at ws from next o'
+    → Finds (λ k. (from ≤ k) × (has ws k ≡ true)) 512 (Some id)
     → PutFields o' next (id ∷ []) r o''
-    → Lowest ws (id + 1) j
-    → Listing out at ws j r o''
+    → Listing out at ws (id + 1) r o''
 unfolding rising_below
-listing_more {out} {ws} {o'} {o''} {at} {id} {next} {r} {j} p l f x =
-    record {
-      within = x.within;
-      here = λ m. (x.found m).1;
-      so_far = rw (none_between (has ws) (suc id) j above (λ i a b. x.none_before i (omega arith) b), p.here l) (put_join p.so_far f);
-      short = omega (arith, above, p.short, field_short 3 f (omega arith) (omega arith));
-    }
+listing_more {out} {ws} {o'} {o''} {at} {from} {next} {r} {id} p (found l h n) f =
+    let e : id + 1 ≡ suc id = omega arith in
+    record { within = omega arith; so_far = rw e more; short = omega (arith, h.0, p.short, field_short 3 f (omega arith) (omega arith)) }
   where
-    above : suc id ≤ j
-    above = omega (arith, lowest_above x (omega arith))
+    more : PutFields out at (rising_below (suc id) (has ws)) r o''
+    more = rw (h.1, none_between (has ws) from id h.0 (λ i a b t. n i b (a, t))) (put_join p.so_far f)
 
 pub listing_end :
-    {out ws o' : List ℕ} {at id next : ℕ} → Listing out at ws id next o' → 512 ≤ id → PutFields out at (rising (has ws)) next o'
+    {out ws o' : List ℕ} {at from next : ℕ}
+    → Listing out at ws from next o'
+    → Finds (λ k. (from ≤ k) × (has ws k ≡ true)) 512 None
+    → PutFields out at (rising (has ws)) next o'
 unfolding rising
-listing_end {id = id} p h = let e : id ≡ 512 = omega (arith, p.within) in rw e at p.so_far
+listing_end {ws = ws} {from = from} p (nowhere n) = rw (none_between (has ws) from 512 p.within (λ i a b t. n i b (a, t))) p.so_far
 
 pub no_ids : (R : State) → ((v : ℕ) → R v ≡ false) → rising R ≡ []
 unfolding rising rising_below
-no_ids R f = none_between R 0 512 (omega arith) (λ i a b. f i)
+no_ids R f = none_between R 0 512 (omega arith) (λ i a b t. absurd (clash (f i) t))
+  where
+    clash : {b : Bool} → b ≡ false → b ≡ true → ⊥
+    clash e t = cc

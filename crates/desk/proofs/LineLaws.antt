@@ -8,7 +8,6 @@
 --   put_join         == fields stored behind fields
 --   put_one          == a space and the digits of a number are its field
 --   field_short      == a field of a number below 10 ^ k takes at most k + 1 bytes
---   text_length      == lent memory keeps its length
 --   line_ends        == a word, fields and a line feed stored from the front are the line
 use Prim.Native.Nat.{ℕ, zero, suc, ◌+◌, ◌-◌, ◌/◌, ◌%◌, ◌^◌, ◌<◌, ◌≤◌}
 use mathlib.Core.Path.{◌≡◌, refl, sym, ap, ◌∙◌}
@@ -17,7 +16,7 @@ use native.Mathlib.Nat.{pow-le-pow_right}
 use native.Mathlib.Decide.{dec_lt}
 use native.Mathlib.Omega.{arith}
 use lib.ListN.{length, drop, length-append}
-use lib.Seq.{sets, length-sets}
+use lib.Seq.{sets}
 use Rattle.io.specs.Digits.{hex_digit_ascii, last_digits, IsDigitCount}
 use Rattle.house.proofs.StoreLaws.{sets_append, sets_front}
 use Rattle.desk.specs.Text.{Fields, no_more, field}
@@ -95,9 +94,6 @@ field_short {at = at} {r} {n} k p h l = go p.fields p.put.next
           digits_many x.many n,
           fewest_short k x.fewest h l,
         )
-
-pub text_length : {out t o' : List ℕ} {at r : ℕ} → PutText out at t r o' → length o' ≡ length out
-text_length {out} {t} {at = at} p = ap length p.stored ∙ length-sets out at t
 
 pub line_ends :
     {w ns out o1 o2 o3 : List ℕ} {a e r : ℕ}

@@ -9,6 +9,8 @@
 --   planner_gives_one == the planner writes one text
 --   checker_one      == of `checker`: one reply, and one content of the lent memory after it
 --   planner_one      == of `planner`
+use Rattle.std.specs.Prelude.{Result}
+use Rattle.rounds.specs.declared.check.Accepted.{Accepted}
 use Prim.Native.Nat.{ℕ}
 use mathlib.Core.Path.{◌≡◌, sym, ap, ◌∙◌}
 use mathlib.Core.List.{List, [], ◌∷◌, ◌++◌}
@@ -19,7 +21,6 @@ use Rattle.house.specs.Numbers.{encode}
 use Rattle.house.specs.Refusals.{Clear}
 use Rattle.house.proofs.RefusalLaws.{first_one, first_not_clear}
 use Rattle.rounds.specs.Replies.{Checks}
-use Rattle.rounds.specs.declared.check.Checked.{Checked}
 use Rattle.rounds.proofs.OneReply.{checks_one}
 use Rattle.plans.proofs.OneReply.{plan_rounds_one}
 use Rattle.planfile.specs.File.{Holds}
@@ -73,7 +74,7 @@ module _ {f : List ℕ} (k : Clear (FileFault f)) where
   one_content h h' = holds_one h h' (omega (arith, clear_short k))
 
   one_check :
-      {o n is zs o' n' is' zs' set set' : List ℕ} {mode mode' : ℕ} {a b : Checked}
+      {o n is zs o' n' is' zs' set set' : List ℕ} {mode mode' : ℕ} {a b : Result Accepted Refusal}
       → Holds f o n mode is zs
       → Holds f o' n' mode' is' zs'
       → Checks (encode 2 o) (encode 2 n) mode (encode 2 is) (encode 2 zs) (zeros 64) a set
@@ -90,9 +91,10 @@ checker_says_one (wrong_file g e d) (wrong_file h e' d') =
 checker_says_one (wrong_file g e d) (accepted k h c e' d') = absurd (first_not_clear g k)
 checker_says_one (wrong_file g e d) (refused k h c e' d') = absurd (first_not_clear g k)
 checker_says_one (accepted k h c e d) (wrong_file g e' d') = absurd (first_not_clear g k)
-checker_says_one (accepted k h c e d) (accepted k' h' c' e' d') =
+checker_says_one (accepted {a = a} k h c e d) (accepted {a = b} k' h' c' e' d') =
     let x = (one_check k h h' c c').0 in
-    (cc, cc)
+    let y : a ≡ b = cc in
+    (cc, d ∙ ap (λ (p : Accepted). p.rounds ∷ p.dues ∷ []) y ∙ sym d')
 checker_says_one (accepted k h c e d) (refused k' h' c' e' d') =
     let x = (one_check k h h' c c').0 in
     let z : ◌≡◌ {A = ℕ} 0 1 = cc in

@@ -3,29 +3,21 @@
 --   PutText out at t r out'    == the text t is stored from the offset at on; r is the offset behind it
 --   PutFields out at ns r out' == so are the numbers ns in decimal, a space in front of each
 --   PutLine w ns out r out'    == the line of the word w and the numbers ns is put at the front
---   Verdict .. out r out'      == the checker's line for a content that was read is put at the front
---   Plan .. out r out'         == what the planner prints for two routes and a mode is put at the front
---   in_read, in_planned, in_written == the refusal in an answer
-use Rattle.std.specs.Prelude.{ℕ, ◌+◌, ◌≡◌, List, [], ◌∷◌, ◌++◌, length}
+--   IsRead f old new mode ids sizes == nothing is wrong with the file f; this is its content, the lists as bytes
+--   Checked f a set            == the answer a of the check, with the set, is what the checker says of f
+--   Refuses f q                == the NO line of the refusal q is what the planner gives for f
+--   Planned f out a out'       == what the planner writes for f is put at the front; or it is refused, and nothing is put
+use Rattle.std.specs.Prelude.{ℕ, ◌+◌, ◌≡◌, List, [], ◌∷◌, ◌++◌, length, Result, Ok, Err}
 use Rattle.std.proofs.lemmas.List.Edits.{sets}
 use Rattle.house.specs.declared.Refusal.{Refusal}
-use Rattle.house.specs.declared.Refusal.TheVariants.{Unfit}
-use Rattle.house.specs.Numbers.{entries, words}
-use Rattle.house.specs.Refusals.{First, Clear}
-use Rattle.routes.specs.Walk.{State}
-use Rattle.rounds.specs.Replies.{Checks}
-use Rattle.rounds.specs.declared.check.Checked.TheVariants.{Accepted, Refused}
-use Rattle.plans.specs.Plan.{PlanRounds, ids_of, sizes_of}
-use Rattle.plans.specs.Replies.{PlanFault}
-use Rattle.plans.specs.declared.plan.Planned.{Planned}
-use Rattle.plans.specs.declared.plan.Planned.TheVariants.{Given, Refused as NotPlanned}
-use Rattle.planfile.specs.File.{file_of}
-use Rattle.planfile.specs.declared.read.ReadReply.{ReadReply}
-use Rattle.planfile.specs.declared.read.ReadReply.TheVariants.{Content, NotRead}
-use Rattle.planfile.specs.declared.write.WriteReply.{WriteReply}
-use Rattle.planfile.specs.declared.write.WriteReply.TheVariants.{Written, NotWritten}
+use Rattle.house.specs.Numbers.{words, eight, encode}
+use Rattle.house.specs.Refusals.{Clear}
+use Rattle.house.specs.Sets.{has}
+use Rattle.rounds.specs.declared.check.Accepted.{Accepted}
+use Rattle.plans.specs.Plan.{rising}
+use Rattle.planfile.specs.File.{Holds}
 use Rattle.desk.specs.Text.{Fields, Line, OK, NO}
-use Rattle.desk.specs.Replies.{zeros, told, subset, Puts}
+use Rattle.desk.specs.Replies.{FileFault, told, CheckerSays, PlannerGives, Puts, PlannerPuts}
 
 pub record PutText (out : List ℕ) (at : ℕ) (t : List ℕ) (r : ℕ) (out' : List ℕ) : Type 0 where
   pub stored : out' ≡ sets out at t
@@ -41,40 +33,25 @@ pub record PutLine (w ns out : List ℕ) (r : ℕ) (out' : List ℕ) : Type 0 wh
   pub line : Line w ns text
   pub puts : Puts text out r out'
 
-pub data Verdict (old new : List ℕ) (mode : ℕ) (ids sizes out : List ℕ) (r : ℕ) (out' : List ℕ) : Type 0 where
-  accepted :
-      {rounds dues : ℕ} {set : List ℕ}
-      → Checks old new mode ids sizes (zeros 64) (Accepted rounds dues) set
-      → PutLine OK (rounds ∷ dues ∷ []) out r out'
-      → Verdict old new mode ids sizes out r out'
-  refused :
-      {q : Refusal} {set : List ℕ}
-      → Checks old new mode ids sizes (zeros 64) (Refused q) set
-      → PutLine NO (told q ++ subset q (words set)) out r out'
-      → Verdict old new mode ids sizes out r out'
+pub record IsRead (f old new : List ℕ) (mode : ℕ) (ids sizes : List ℕ) : Type 0 where
+  pub old_ids : List ℕ
+  pub new_ids : List ℕ
+  pub round_ids : List ℕ
+  pub round_sizes : List ℕ
+  pub clear : Clear (FileFault f)
+  pub holds : Holds f old_ids new_ids mode round_ids round_sizes
+  pub old_is : old ≡ encode 2 old_ids
+  pub new_is : new ≡ encode 2 new_ids
+  pub ids_is : ids ≡ encode 2 round_ids
+  pub sizes_is : sizes ≡ encode 2 round_sizes
 
-pub data Plan (old new : List ℕ) (mode : ℕ) (out : List ℕ) (r : ℕ) (out' : List ℕ) : Type 0 where
-  refused :
-      {q : Refusal}
-      → First (PlanFault old new mode (zeros 1024) (zeros 1024)) q
-      → PutLine NO (told q) out r out'
-      → Plan old new mode out r out'
-  planned :
-      {Rs : List State} {t : List ℕ}
-      → Clear (PlanFault old new mode (zeros 1024) (zeros 1024))
-      → PlanRounds mode (entries old) (entries new) Rs
-      → t ≡ file_of (entries old) (entries new) mode (ids_of Rs) (sizes_of Rs)
-      → Puts t out r out'
-      → Plan old new mode out r out'
+abbrev pub Checked : List ℕ → Result Accepted Refusal → List ℕ → Type 0
+Checked f (Ok a) set = CheckerSays f OK (a.rounds ∷ a.dues ∷ [])
+Checked f (Err q) set = CheckerSays f NO (told q ++ rising (has (eight (words set))))
 
-abbrev pub in_read : ReadReply → Refusal
-in_read (NotRead r) = r
-in_read (Content a b mode count rounds) = Unfit
+pub record Refuses (f : List ℕ) (q : Refusal) : Type 0 where
+  pub gives : (t : List ℕ) → Line NO (told q) t → PlannerGives f t
 
-abbrev pub in_planned : Planned → Refusal
-in_planned (NotPlanned r) = r
-in_planned (Given rounds count) = Unfit
-
-abbrev pub in_written : WriteReply → Refusal
-in_written (NotWritten r) = r
-in_written (Written size) = Unfit
+abbrev pub Planned : List ℕ → List ℕ → Result ℕ Refusal → List ℕ → Type 0
+Planned f out (Ok n) out' = PlannerPuts f out n out'
+Planned f out (Err q) out' = Refuses f q × (out' ≡ out)

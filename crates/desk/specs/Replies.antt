@@ -7,14 +7,14 @@
 --   PlannerGives f t   == the planner writes t: a whole plan file, or the NO line
 --   Puts t out r out'  == t is put at the front of the lent bytes: r is its length, and out' what they hold afterwards
 --   CheckerPuts, PlannerPuts == what each program prints is put at the front of the lent bytes
-use Rattle.std.specs.Prelude.{ℕ, ◌≡◌, cond, ◌||◌, List, [], ◌∷◌, ◌++◌, length, drop, replicate, eqb}
+use Rattle.std.specs.Prelude.{ℕ, ◌≡◌, cond, ◌||◌, List, [], ◌∷◌, ◌++◌, length, drop, replicate, eqb, Ok, Err}
 use Rattle.house.specs.declared.Refusal.{Refusal}
 use Rattle.house.specs.Numbers.{words, encode}
 use Rattle.house.specs.Sets.{has}
 use Rattle.house.specs.Refusals.{number, site, place, First, Clear}
 use Rattle.routes.specs.Walk.{State}
 use Rattle.rounds.specs.Replies.{Checks}
-use Rattle.rounds.specs.declared.check.Checked.TheVariants.{Accepted, Refused}
+use Rattle.rounds.specs.declared.check.Accepted.{Accepted}
 use Rattle.plans.specs.Plan.{rising, PlanRounds, ids_of, sizes_of}
 use Rattle.plans.specs.Replies.{PlanFault}
 use Rattle.planfile.specs.File.{file_of, Holds}
@@ -36,18 +36,18 @@ subset r ws = cond (eqb (number r) 16 || eqb (number r) 17) (rising (has ws)) []
 pub data CheckerSays (f : List ℕ) : List ℕ → List ℕ → Type 0 where
   wrong_file : {r : Refusal} {w ns : List ℕ} → First (FileFault f) r → w ≡ NO → ns ≡ told r → CheckerSays f w ns
   accepted :
-      {o n is zs : List ℕ} {mode rounds dues : ℕ} {set w ns : List ℕ}
+      {o n is zs : List ℕ} {mode : ℕ} {a : Accepted} {set w ns : List ℕ}
       → Clear (FileFault f)
       → Holds f o n mode is zs
-      → Checks (encode 2 o) (encode 2 n) mode (encode 2 is) (encode 2 zs) (zeros 64) (Accepted rounds dues) set
+      → Checks (encode 2 o) (encode 2 n) mode (encode 2 is) (encode 2 zs) (zeros 64) (Ok a) set
       → w ≡ OK
-      → ns ≡ rounds ∷ dues ∷ []
+      → ns ≡ a.rounds ∷ a.dues ∷ []
       → CheckerSays f w ns
   refused :
       {o n is zs : List ℕ} {mode : ℕ} {r : Refusal} {set w ns : List ℕ}
       → Clear (FileFault f)
       → Holds f o n mode is zs
-      → Checks (encode 2 o) (encode 2 n) mode (encode 2 is) (encode 2 zs) (zeros 64) (Refused r) set
+      → Checks (encode 2 o) (encode 2 n) mode (encode 2 is) (encode 2 zs) (zeros 64) (Err r) set
       → w ≡ NO
       → ns ≡ told r ++ subset r (words set)
       → CheckerSays f w ns

@@ -3,121 +3,172 @@
 // decimal, ended by a line feed.
 #![tactic(auto)]
 
-ghost use Rattle.std.specs.Prelude.{◌≡◌, [], ◌∷◌, ◌++◌, ◌+◌, ◌≤◌, length};
+ghost use Rattle.std.specs.Prelude.{◌≡◌, [], ◌∷◌, ◌++◌, ◌+◌, ◌*◌, ◌≤◌, length, take, IfOk, IfErr};
+ghost use Rattle.house.specs.Refusals.{First};
 ghost use Rattle.house.specs.Sets.{has};
 ghost use Rattle.plans.specs.Plan.{rising};
 ghost use Rattle.desk.specs.Text.{OK, NO};
-ghost use Rattle.desk.specs.Replies.{told, CheckerPuts, PlannerPuts};
-ghost use Rattle.desk.specs.Parts.{PutText, PutFields, PutLine, Verdict, Plan, in_read, in_planned, in_written};
+ghost use Rattle.desk.specs.Replies.{zeros, told, FileFault, CheckerPuts, PlannerPuts};
+ghost use Rattle.desk.specs.Parts.{PutText, PutFields, PutLine, IsRead, Checked, Planned};
 
-use house::{Refusal, lowest, store};
-use planfile::read::ReadReply;
-use planfile::write::WriteReply;
-use plans::plan::Planned;
-use rounds::check::Checked;
+use house::{IdSet, Refusal, Told, store};
+use planfile::read::Content;
+use rounds::check::Accepted;
 
-// Stores `text` from the offset `at` on; gives the offset behind it.
-fn put(out: &mut [u8], at: usize, text: &[u8]) -> usize
-    requires { at + length text.now ≤ length out.old }
-    ensures { PutText out.old at text.now result out.new }
-{
-    store(out, at, text);
-    at + text.len()
+// What was read of a plan file: four arrays, with the content at their fronts.
+#[derive(Drop)]
+struct Held {
+    old: [u8; 512],
+    new: [u8; 512],
+    ids: [u8; 4096],
+    sizes: [u8; 2048],
+    content: Content,
+    ghost old_within: { 2 * content.olds ≤ 512 },
+    ghost new_within: { 2 * content.news ≤ 512 },
+    ghost ids_within: { 2 * content.ids ≤ 4096 },
+    ghost sizes_within: { 2 * content.rounds ≤ 2048 },
 }
 
-// Puts a space and the number `n` in decimal at `at`; gives the offset behind them.
-fn put_number(out: &mut [u8], at: usize, n: usize) -> usize
-    requires { at + 21 ≤ length out.old }
-    ensures { PutFields out.old at (n ∷ []) result out.new × (result ≤ at + 21) }
-{
-    let mut text = [0u8; 20];
-    let k = io::decimal(n as u64, &mut text);
-    let start = put(out, at, b" ");
-    put(out, start, &text[..k])
-}
-
-// Puts the ids of the set at `at`, rising; gives the offset behind them. Each has at most three digits.
-fn put_ids(out: &mut [u8], at: usize, set: &[u64; 8]) -> usize
-    requires { at + 2069 ≤ length out.old }
-    ensures { PutFields out.old at (rising (has set.now)) result out.new × (result ≤ at + 2048) }
-{
-    let mut next = at;
-    let mut id = lowest(set, 0);
-    while id < 512 {
-        next = put_number(out, next, id);
-        id = lowest(set, id + 1);
+impl Held {
+    // Reads a plan file.
+    fn read(file: &[u8]) -> Result<Held, Refusal>
+        ensures held { IfOk result (λ h. IsRead file.now (take (2 * h.content.olds) h.old)
+            (take (2 * h.content.news) h.new) h.content.mode (take (2 * h.content.ids) h.ids)
+            (take (2 * h.content.rounds) h.sizes)) }
+        ensures refused { IfErr result (First (FileFault file.now)) }
+    {
+        let mut old = [0; 512];
+        let mut new = [0; 512];
+        let mut ids = [0; 4096];
+        let mut sizes = [0; 2048];
+        let content = planfile::read::read(file, &mut old, &mut new, &mut ids, &mut sizes)?;
+        Ok(Held {
+            old,
+            new,
+            ids,
+            sizes,
+            content,
+        })
     }
-    next
+
+    // The old route.
+    fn old(&self) -> &[u8]
+        ensures { result.now ≡ take (2 * self.now.content.olds) self.now.old }
+    {
+        &self.old[..2 * self.content.olds]
+    }
+
+    // The new route.
+    fn new(&self) -> &[u8]
+        ensures { result.now ≡ take (2 * self.now.content.news) self.now.new }
+    {
+        &self.new[..2 * self.content.news]
+    }
+
+    // The ids of the rounds, all rounds joined.
+    fn ids(&self) -> &[u8]
+        ensures { result.now ≡ take (2 * self.now.content.ids) self.now.ids }
+    {
+        &self.ids[..2 * self.content.ids]
+    }
+
+    // The sizes of the rounds.
+    fn sizes(&self) -> &[u8]
+        ensures { result.now ≡ take (2 * self.now.content.rounds) self.now.sizes }
+    {
+        &self.sizes[..2 * self.content.rounds]
+    }
+}
+
+// What is printed so far: `len` bytes, at the front of `out`.
+// Kept: not `write!`, which promises its text only where it gives `Ok`; these always print.
+#[derive(Drop)]
+struct Printed<'a> {
+    out: &'a mut [u8; 4096],
+    len: usize,
+}
+
+impl Printed<'_> {
+    // Puts `text` behind what is printed.
+    fn text(&mut self, text: &[u8])
+        requires { self.old.len + length text.now ≤ 4096 }
+        ensures same_reference { self.new.out.ghost_name ≡ self.old.out.ghost_name }
+        ensures put { PutText self.old.out.now self.old.len text.now self.new.len self.new.out.now }
+    {
+        let at = self.len;
+        store(self.out, at, text);
+        self.len = at + text.len();
+    }
+
+    // Puts a space and the number `n` in decimal.
+    fn number(&mut self, n: usize)
+        requires { self.old.len + 21 ≤ 4096 }
+        ensures same_reference { self.new.out.ghost_name ≡ self.old.out.ghost_name }
+        ensures put { PutFields self.old.out.now self.old.len (n ∷ []) self.new.len self.new.out.now }
+        ensures short { self.new.len ≤ self.old.len + 21 }
+    {
+        let mut digits = [0; 20];
+        let k = io::decimal(n as u64, &mut digits);
+        self.text(b" ");
+        self.text(&digits[..k]);
+    }
+
+    // Puts the ids of the set, rising. Each has at most three digits.
+    fn ids(&mut self, set: &IdSet)
+        requires { self.old.len + 2069 ≤ 4096 }
+        ensures same_reference { self.new.out.ghost_name ≡ self.old.out.ghost_name }
+        ensures put { PutFields self.old.out.now self.old.len (rising (has set.now.words)) self.new.len self.new.out.now }
+        ensures short { self.new.len ≤ self.old.len + 2048 }
+    {
+        let mut from = 0;
+        while let Some(id) = set.first_from(from) {
+            self.number(id);
+            from = id + 1;
+        }
+    }
 }
 
 // Puts the OK line at the front: the number of rounds and the number of due nodes. Gives its length.
-fn ok_line(out: &mut [u8], rounds: usize, dues: usize) -> usize
-    requires { 4096 ≤ length out.old }
-    ensures { PutLine OK (rounds ∷ dues ∷ []) out.old result out.new }
+fn ok_line(out: &mut [u8; 4096], passed: Accepted) -> usize
+    ensures { PutLine OK (passed.rounds ∷ passed.dues ∷ []) out.old result out.new }
 {
-    let a = put(out, 0, b"OK");
-    let b = put_number(out, a, rounds);
-    let c = put_number(out, b, dues);
-    put(out, c, b"\n")
+    let mut line = Printed { out, len: 0 };
+    line.text(b"OK");
+    line.number(passed.rounds);
+    line.number(passed.dues);
+    line.text(b"\n");
+    line.len
 }
 
 // Puts the NO line at the front: the refusal's number, where and place, and the ids of the set. Gives its length.
-fn no_line(out: &mut [u8], r: Refusal, set: &[u64; 8]) -> usize
-    requires { 4096 ≤ length out.old }
-    ensures { PutLine NO (told r ++ rising (has set.now)) out.old result out.new }
+fn no_line(out: &mut [u8; 4096], r: Refusal, set: &IdSet) -> usize
+    ensures { PutLine NO (told r ++ rising (has set.now.words)) out.old result out.new }
 {
-    let told = house::tell(r);
-    let a = put(out, 0, b"NO");
-    let b = put_number(out, a, told.number);
-    let c = put_number(out, b, told.site);
-    let d = put_number(out, c, told.place);
-    let e = put_ids(out, d, set);
-    put(out, e, b"\n")
+    let told = Told::from(r);
+    let mut line = Printed { out, len: 0 };
+    line.text(b"NO");
+    line.number(told.number);
+    line.number(told.site);
+    line.number(told.place);
+    line.ids(set);
+    line.text(b"\n");
+    line.len
 }
 
-// The refusal in the reader's answer.
-fn not_read(a: ReadReply) -> Refusal
-    ensures { result ≡ in_read a }
+// What the check says of a file. After 16 and 17 the set has the ids of the named subset, and else none.
+fn checked(file: &[u8], set: &mut [u8; 64]) -> Result<Accepted, Refusal>
+    requires { set.old ≡ zeros 64 }
+    ensures { Checked file.now result set.new }
 {
-    match a {
-        ReadReply::NotRead(r) => r,
-        ReadReply::Content(_, _, _, _, _) => Refusal::Unfit,
-    }
-}
-
-// The refusal in the planner's answer.
-fn not_planned(a: Planned) -> Refusal
-    ensures { result ≡ in_planned a }
-{
-    match a {
-        Planned::Refused(r) => r,
-        Planned::Given(_, _) => Refusal::Unfit,
-    }
-}
-
-// The refusal in the writer's answer.
-fn not_written(a: WriteReply) -> Refusal
-    ensures { result ≡ in_written a }
-{
-    match a {
-        WriteReply::NotWritten(r) => r,
-        WriteReply::Written(_) => Refusal::Unfit,
-    }
-}
-
-// The line for a content that was read: the check's answer. The set holds ids only where the answer is 16 or 17.
-fn verdict(old: &[u8], new: &[u8], mode: u16, ids: &[u8], sizes: &[u8], out: &mut [u8]) -> usize
-    requires { 4096 ≤ length out.old }
-    ensures { Verdict old.now new.now mode ids.now sizes.now out.old result out.new }
-{
-    let mut set = [0u8; 64];
-    match rounds::check::check(old, new, mode, ids, sizes, &mut set) {
-        Checked::Accepted(rounds, dues) => ok_line(out, rounds, dues),
-        Checked::Refused(r) => {
-            let named = house::set_of(&set);
-            no_line(out, r, &named)
-        }
-    }
+    let held = Held::read(file)?;
+    rounds::check::check(
+        held.old(),
+        held.new(),
+        held.content.mode,
+        held.ids(),
+        held.sizes(),
+        set,
+    )
 }
 
 // The checker's line for a file: OK, the number of rounds and the number of due nodes; or NO, number, where, place and, after 16
@@ -125,65 +176,39 @@ fn verdict(old: &[u8], new: &[u8], mode: u16, ids: &[u8], sizes: &[u8], out: &mu
 pub fn checker(file: &[u8], out: &mut [u8; 4096]) -> usize
     ensures { CheckerPuts file.now out.old result out.new }
 {
-    let lent: &mut [u8] = out;
-    let mut old = [0u8; 512];
-    let mut new = [0u8; 512];
-    let mut ids = [0u8; 4096];
-    let mut sizes = [0u8; 2048];
-    let reply = planfile::read::read(file, &mut old, &mut new, &mut ids, &mut sizes);
-    let ReadReply::Content(olds, news, mode, count, rounds) = reply else {
-        let none = [0u64; 8];
-        return no_line(lent, not_read(reply), &none);
-    };
-    verdict(
-        &old[..2 * olds],
-        &new[..2 * news],
-        mode,
-        &ids[..2 * count],
-        &sizes[..2 * rounds],
-        lent,
-    )
+    let mut set = [0; 64];
+    match checked(file, &mut set) {
+        Ok(passed) => ok_line(out, passed),
+        Err(r) => no_line(out, r, &IdSet::from_bytes(&set)),
+    }
 }
 
-// The plan file of two routes and a mode, or the NO line. The writer refuses nothing that the planner gave.
-fn planned(old: &[u8], new: &[u8], mode: u16, out: &mut [u8]) -> usize
-    requires { 4096 ≤ length out.old }
-    ensures { Plan old.now new.now mode out.old result out.new }
+// Puts the plan file of a file's routes and its mode at the front. Gives its length. The writer refuses nothing that the planner
+// gave.
+fn planned(file: &[u8], out: &mut [u8; 4096]) -> Result<usize, Refusal>
+    ensures { Planned file.now out.old result out.new }
 {
-    let none = [0u64; 8];
-    let mut ids = [0u8; 1024];
-    let mut sizes = [0u8; 1024];
-    let plan = plans::plan::plan(old, new, mode, &mut ids, &mut sizes);
-    let Planned::Given(rounds, count) = plan else {
-        return no_line(out, not_planned(plan), &none);
-    };
-    let reply = planfile::write::write(
+    let held = Held::read(file)?;
+    let (old, new, mode) = (held.old(), held.new(), held.content.mode);
+    let mut ids = [0; 1024];
+    let mut sizes = [0; 1024];
+    let given = plans::plan::plan(old, new, mode, &mut ids, &mut sizes)?;
+    planfile::write::write(
         old,
         new,
         mode,
-        &ids[..2 * count],
-        &sizes[..2 * rounds],
+        &ids[..2 * given.count],
+        &sizes[..2 * given.rounds],
         out,
-    );
-    let WriteReply::Written(size) = reply else {
-        return no_line(out, not_written(reply), &none);
-    };
-    size
+    )
 }
 
 // What the planner prints for a file: the plan file of its routes and its mode, whatever rounds it holds; or the NO line.
 pub fn planner(file: &[u8], out: &mut [u8; 4096]) -> usize
     ensures { PlannerPuts file.now out.old result out.new }
 {
-    let lent: &mut [u8] = out;
-    let mut old = [0u8; 512];
-    let mut new = [0u8; 512];
-    let mut ids = [0u8; 4096];
-    let mut sizes = [0u8; 2048];
-    let reply = planfile::read::read(file, &mut old, &mut new, &mut ids, &mut sizes);
-    let ReadReply::Content(olds, news, mode, _, _) = reply else {
-        let none = [0u64; 8];
-        return no_line(lent, not_read(reply), &none);
-    };
-    planned(&old[..2 * olds], &new[..2 * news], mode, lent)
+    match planned(file, out) {
+        Ok(size) => size,
+        Err(r) => no_line(out, r, &IdSet::new()),
+    }
 }

@@ -1,37 +1,43 @@
 -- Laws of the peeling: counting steps into nodes, and what taking a node away keeps. Assumes nothing.
 --
 --   hits_same, hits_none    == when hits is 1 and when it is 0
+--   times ws i x            == how often x stands among the first i numbers of ws
+--   times_low, times_longer == it is at most i, and no less where i is more
+--   times_more, times_both  == the same of one number more, and of both next values of a node
 --   plus_over, plus_raised, plus_lowered == what raising and lowering a count does
+--   plus_none, plus_then, minus_then == what raising and lowering the counts of the numbers of ws does, one after the other
 --   tally_begins            == before the first node nothing is counted
---   tally_room, raised_room == a count can be raised: it is at most twice the number of nodes passed
---   tally_out, tally_both   == a node that is not in the set adds nothing; one in the set adds its two steps
+--   tally_room              == a count can be raised: it is at most twice the number of nodes passed
+--   tally_out, tally_in     == a node that is not in the set adds nothing; one in the set adds its two steps
 --   peel_begins             == at first all nodes of the set remain and none is queued
+--   busy_begins             == and all nodes below 0 are busy
 --   peel_room, peel_bound   == the queue has a place while a node remains, and never more than 512 numbers
---   peel_left               == the steps from the node at the head are still counted
---   lower_one, lower_other  == so the counts of both its next values can be lowered
+--   peel_left, lower_room   == the steps from the node at the head are still counted, so the counts of its next values can be lowered
 --   peel_next               == once they are not, the head moves on
 --   offer_peel              == an offer keeps the peeling: what it takes away no step from a remaining node enters
 --   offer_shrinks, offer_busy == it adds no mark; what was offered and remains is busy
 --   busy_more               == after the offer of i all that remain up to i are busy
---   peeling_next            == a turn: the head's steps are taken off and its two next values offered
+--   Offering o n c a m k q h t ws i == a peeling, where each node that remains is busy or stands in ws from the place i on
+--   offering_begins, offering_more, offering_ends == a turn: the head's steps are taken off, and its two next values offered
 --   peel_ends               == when none waits, nodes remain exactly if there is a closed path
+--   cyclic_by               == so there is one exactly if fewer nodes were taken away than the set has
 use Prim.Native.Nat.{ℕ, ◌+◌, ◌-◌, ◌*◌, ◌≤◌, ◌<◌}
 use native.Mathlib.Omega.{arith}
-use native.Mathlib.Decide.{ℕ_discrete}
+use native.Mathlib.Decide.{ℕ_discrete, dec_lt}
 use mathlib.Core.Path.{◌≡◌, refl, sym, ◌∙◌, ap}
 use mathlib.Core.Bool.{Bool, true, false, cond}
 use mathlib.Core.List.{List}
-use mathlib.Core.Logic.{⊎_elim, by_cases}
+use mathlib.Core.Logic.{◌⊎◌, ◌↔◌, inl, inr, ⊎_elim, by_cases}
 use borrow.Author.Tests.{eq-eqb, ne_eqb}
 use lib.Dec.{eqb}
 use lib.ListN.{get_or, length, set, replicate, length-set, length-replicate}
 use lib.Seq.{get_or-set_same, get_or-set_other}
 use Rattle.graph.specs.Search.{Steps, Marked, Cyclic}
-use Rattle.graph.specs.Working.{one, other, among, hits, entries, Sent, sum, Plus, Offered, over, gone, busy, free}
-use Rattle.graph.specs.Working.{Peel, Busy, Peeling, Tally, Peeled}
+use Rattle.graph.specs.Working.{one, other, nexts, among, hits, entries, Sent, sum, Plus, Offered, over, gone, busy, free}
+use Rattle.graph.specs.Working.{Waits, Peel, Busy, Peeling, Tally, Peeled}
 use Rattle.graph.proofs.Paths.{around_maps, within_maps}
 use Rattle.graph.proofs.Peel.{peel_keeps, peel_remains}
-use Rattle.graph.proofs.Sums.{set_cases, mark_inside, get_d_repeat, sum_found, sum_longer, sum_ones, sum_zero}
+use Rattle.graph.proofs.Sums.{set_cases, mark_inside, get_d_repeat, sum_found, sum_longer, sum_ones, sum_more, sum_bound, sum_zero}
 use Rattle.graph.proofs.Sums.{among_part, among_bound, among_more, among_same, among_less, sent_same, sent_more}
 use Rattle.graph.proofs.SearchLaws.{one_steps, other_steps, steps_two}
 
@@ -47,6 +53,23 @@ hits_low w x = low (eqb w x)
     low : (b : Bool) → cond b 1 0 ≤ 1
     low true = omega arith
     low false = omega arith
+
+abbrev pub times : List ℕ → ℕ → ℕ → ℕ
+times ws i x = Sent ws i (λ w. hits w x)
+
+times_low : (ws : List ℕ) (i x : ℕ) → times ws i x ≤ i
+times_low ws i x = omega (arith, sum_bound i 1 (λ j. hits (get_or ws j 0) x) (λ j. hits_low (get_or ws j 0) x))
+
+times_more : (ws : List ℕ) (i w x : ℕ) → w ≡ get_or ws i 0 → times ws (i + 1) x ≡ times ws i x + hits w x
+times_more ws i w x e = rw e (sent_more ws i (λ w. hits w x))
+
+times_longer : (ws : List ℕ) (i j x : ℕ) → i ≤ j → times ws i x ≤ times ws j x
+times_longer ws i j x l = sum_longer i j (λ k. hits (get_or ws k 0) x) l
+
+times_both : (o n c : List ℕ) (v : ℕ) (ws : List ℕ) (x : ℕ) → ws ≡ nexts o n c v → times ws 2 x ≡ entries o n c x v
+times_both o n c v ws x e =
+    let f = λ (j : ℕ). hits (get_or (nexts o n c v) j 0) x in
+    rw e (omega (arith, sum_more 1 f, sum_more 0 f, sum_zero f))
 
 pub plus_over : {k : List ℕ} (w : ℕ) → length k ≡ 512 → 512 ≤ w → Plus k (hits w) k
 plus_over {k} w s l = record { size = s; same = s; each = λ x h. let z = hits_none w x (λ e. omega arith) in omega arith }
@@ -77,6 +100,26 @@ plus_lowered {k} w s l p =
           (set_cases k w x (get_or k w 0 - 1) 0 (omega arith));
     }
 
+pub plus_none : {k : List ℕ} (ws : List ℕ) → length k ≡ 512 → Plus k (times ws 0) k
+plus_none ws s =
+    record { size = s; same = s; each = λ x l. let z = sum_zero (λ j. hits (get_or ws j 0) x) in omega arith }
+
+pub plus_then : {k k₁ k₂ : List ℕ} (ws : List ℕ) (i : ℕ) {w : ℕ}
+    → Plus k (times ws i) k₁
+    → w ≡ get_or ws i 0
+    → Plus k₁ (hits w) k₂
+    → Plus k (times ws (i + 1)) k₂
+plus_then ws i {w} p e d =
+    record { size = p.size; same = d.same; each = λ x l. omega (arith, p.each x l, d.each x l, times_more ws i w x e) }
+
+pub minus_then : {k k₁ k₂ : List ℕ} (ws : List ℕ) (i : ℕ) {w : ℕ}
+    → Plus k₁ (times ws i) k
+    → w ≡ get_or ws i 0
+    → Plus k₂ (hits w) k₁
+    → Plus k₂ (times ws (i + 1)) k
+minus_then ws i {w} p e d =
+    record { size = d.size; same = p.same; each = λ x l. omega (arith, p.each x l, d.each x l, times_more ws i w x e) }
+
 pub tally_begins : (o n c : List ℕ) (a : List Bool) → Tally o n c a (replicate 512 0) 0
 tally_begins o n c a =
     record {
@@ -89,17 +132,14 @@ tally_low {o} {n} {c} {a} {k} {i} t x l =
     omega
     (arith, among_bound i 2 a (entries o n c x) (λ v. omega (arith, hits_low (one o n c v) x, hits_low (other o n c v) x)), t.each x l)
 
-pub tally_room : {o n c : List ℕ} {a : List Bool} {k : List ℕ} {v : ℕ} → Tally o n c a k v → v < 512 → (x : ℕ) → x < 512 → get_or k x 0 < 65535
-tally_room t l x b = omega (arith, tally_low t x b)
-
-pub raised_room : {o n c : List ℕ} {a : List Bool} {k k₁ : List ℕ} {v : ℕ} (w : ℕ)
+pub tally_room : {o n c : List ℕ} {a : List Bool} {k k₁ : List ℕ} (ws : List ℕ) {v : ℕ} (i x : ℕ)
     → Tally o n c a k v
     → v < 512
-    → Plus k (hits w) k₁
-    → (x : ℕ)
+    → Plus k (times ws i) k₁
+    → i < 2
     → x < 512
     → get_or k₁ x 0 < 65535
-raised_room w t l p x b = omega (arith, tally_low t x b, p.each x b, hits_low w x)
+tally_room ws i x t l p j b = omega (arith, tally_low t x b, p.each x b, times_low ws i x)
 
 pub tally_out : {o n c : List ℕ} {a : List Bool} {k : List ℕ} {v : ℕ}
     → Tally o n c a k v
@@ -108,29 +148,31 @@ pub tally_out : {o n c : List ℕ} {a : List Bool} {k : List ℕ} {v : ℕ}
 tally_out {o} {n} {c} {a} {k} {v} t e =
     record { size = t.size; each = λ x l. t.each x l ∙ sym (among_same v a (entries o n c x) e) }
 
-pub tally_both : {o n c : List ℕ} {a : List Bool} {k k₁ k₂ : List ℕ} {v w u : ℕ}
+pub tally_in : {o n c : List ℕ} {a : List Bool} {k k' : List ℕ} (ws : List ℕ) {v : ℕ} (i : ℕ)
     → Tally o n c a k v
     → get_or a v false ≡ true
-    → w ≡ one o n c v
-    → u ≡ other o n c v
-    → Plus k (hits w) k₁
-    → Plus k₁ (hits u) k₂
-    → Tally o n c a k₂ (v + 1)
-tally_both {o} {n} {c} {a} {k} {k₁} {k₂} {v} {w} {u} t e ew eu p₁ p₂ =
-    record { size = p₂.same; each = λ x l. now x l }
+    → ws ≡ nexts o n c v
+    → Plus k (times ws i) k'
+    → i ≡ 2
+    → Tally o n c a k' (v + 1)
+tally_in {o} {n} {c} {a} {k} {k'} ws {v} i t e ew p j =
+    record { size = p.same; each = λ x l. now x l }
   where
-    now : (x : ℕ) → x < 512 → get_or k₂ x 0 ≡ among (v + 1) a (entries o n c x)
-    now x l =
-        let hw : hits w x ≡ hits (one o n c v) x = ap (λ y. hits y x) ew in
-        let hu : hits u x ≡ hits (other o n c v) x = ap (λ y. hits y x) eu in
-        omega (arith, among_more v a (entries o n c x) e, t.each x l, p₁.each x l, p₂.each x l)
+    q : Plus k (times ws 2) k'
+    q = rw j at p
 
-pub peel_begins : {o n c : List ℕ} {a : List Bool} {k : List ℕ}
+    now : (x : ℕ) → x < 512 → get_or k' x 0 ≡ among (v + 1) a (entries o n c x)
+    now x l = omega (arith, among_more v a (entries o n c x) e, t.each x l, q.each x l, times_both o n c v ws x ew)
+
+pub peel_begins : {o n c : List ℕ} {a : List Bool} {k q : List ℕ} {h t : ℕ}
     → Tally o n c a k 512
     → length a ≡ 512
-    → Peel o n c a a k (replicate 512 0) 0 0
-peel_begins {o} {n} {c} {a} {k} t s =
-    record {
+    → q ≡ replicate 512 0
+    → h ≡ 0
+    → t ≡ 0
+    → Peel o n c a a k q h t
+peel_begins {o} {n} {c} {a} {k} t s eq eh et =
+    rw (eq, eh, et) (record {
       marks = s;
       counts = t.size;
       places = length-replicate {A = ℕ} 512 0;
@@ -141,7 +183,10 @@ peel_begins {o} {n} {c} {a} {k} t s =
       lowered =
           λ x l. let z = sum_zero (λ i. entries o n c x (get_or (replicate 512 0) i 0)) in omega (arith, t.each x l);
       kept = λ v h. h;
-    }
+    })
+
+pub busy_begins : (m : List Bool) (k : List ℕ) → Busy m k 0
+busy_begins m k = record { counts = λ x l. absurd (omega arith) }
 
 module _ {o n c : List ℕ} {a m : List Bool} {k q : List ℕ} {h t : ℕ} where
   marks_in : Peel o n c a m k q h t → among 512 m (λ v. 1) + t ≤ 512
@@ -164,19 +209,39 @@ module _ {o n c : List ℕ} {a m : List Bool} {k q : List ℕ} {h t : ℕ} where
       let s : sum (h + 1) (λ i. E (get_or q i 0)) ≤ sum t (λ i. E (get_or q i 0)) = sum_longer (h + 1) t (λ i. E (get_or q i 0)) (omega arith) in
       omega (arith, s, sent_more q h E, p.split E, p.lowered x b)
 
-  pub peel_next : {k₁ k₂ : List ℕ} {w u : ℕ} (v : ℕ)
+  pub lower_room : {k₁ : List ℕ} (ws : List ℕ) {v : ℕ} (i : ℕ) {w : ℕ}
       → Peel o n c a m k q h t
       → h < t
       → v ≡ get_or q h 0
-      → w ≡ one o n c v
-      → u ≡ other o n c v
-      → Plus k₁ (hits w) k
-      → Plus k₂ (hits u) k₁
-      → Peel o n c a m k₂ q (h + 1) t
-  peel_next {k₁} {k₂} {w} {u} v p l e ew eu p₁ p₂ =
+      → ws ≡ nexts o n c v
+      → Plus k₁ (times ws i) k
+      → i < 2
+      → w ≡ get_or ws i 0
+      → w < 512
+      → 0 < get_or k₁ w 0
+  lower_room ws {v} i {w} p l e ew p₁ j u b =
+      let z : entries o n c w v ≡ entries o n c w (get_or q h 0) = ap (entries o n c w) e in
+      omega (
+        arith,
+        peel_left p l w b,
+        p₁.each w b,
+        times_both o n c v ws w ew,
+        times_longer ws (i + 1) 2 w (omega arith),
+        times_more ws i w w u,
+        hits_same w w refl,
+      )
+
+  peel_next : {k' : List ℕ} (ws : List ℕ) {v : ℕ}
+      → Peel o n c a m k q h t
+      → h < t
+      → v ≡ get_or q h 0
+      → ws ≡ nexts o n c v
+      → Plus k' (times ws 2) k
+      → Peel o n c a m k' q (h + 1) t
+  peel_next {k'} ws {v} p l e ew d =
       record {
         marks = p.marks;
-        counts = p₂.size;
+        counts = d.size;
         places = p.places;
         behind = omega arith;
         nodes = p.nodes;
@@ -186,38 +251,10 @@ module _ {o n c : List ℕ} {a m : List Bool} {k q : List ℕ} {h t : ℕ} where
         kept = p.kept;
       }
     where
-      now : (x : ℕ) → x < 512 → get_or k₂ x 0 + Sent q (h + 1) (entries o n c x) ≡ among 512 a (entries o n c x)
+      now : (x : ℕ) → x < 512 → get_or k' x 0 + Sent q (h + 1) (entries o n c x) ≡ among 512 a (entries o n c x)
       now x b =
-          let m1 = sent_more q h (entries o n c x) in
           let z : entries o n c x v ≡ entries o n c x (get_or q h 0) = ap (entries o n c x) e in
-          let hw : hits w x ≡ hits (one o n c v) x = ap (λ y. hits y x) ew in
-          let hu : hits u x ≡ hits (other o n c v) x = ap (λ y. hits y x) eu in
-          omega (arith, p.lowered x b, p₁.each x b, p₂.each x b)
-
-  pub lower_one : {w : ℕ} (v : ℕ)
-      → Peel o n c a m k q h t
-      → h < t
-      → v ≡ get_or q h 0
-      → w ≡ one o n c v
-      → w < 512
-      → 0 < get_or k w 0
-  lower_one {w} v p l e ew b =
-      let z : entries o n c w v ≡ entries o n c w (get_or q h 0) = ap (entries o n c w) e in
-      omega (arith, peel_left p l w b, hits_same (one o n c v) w (sym ew))
-
-  pub lower_other : {k₁ : List ℕ} {w u : ℕ} (v : ℕ)
-      → Peel o n c a m k q h t
-      → h < t
-      → v ≡ get_or q h 0
-      → w ≡ one o n c v
-      → u ≡ other o n c v
-      → Plus k₁ (hits w) k
-      → u < 512
-      → 0 < get_or k₁ u 0
-  lower_other {w = w} {u = u} v p l e ew eu p₁ b =
-      let z : entries o n c u v ≡ entries o n c u (get_or q h 0) = ap (entries o n c u) e in
-      let hw : hits w u ≡ hits (one o n c v) u = ap (λ y. hits y u) ew in
-      omega (arith, peel_left p l u b, hits_same (other o n c v) u (sym eu), p₁.each u b)
+          omega (arith, sent_more q h (entries o n c x), p.lowered x b, d.each x b, times_both o n c v ws x ew)
 
   none_enters : Peel o n c a m k q h t → (w : ℕ) → w < 512 → get_or k w 0 ≡ 0 → (u : ℕ) → Marked m u → Steps o n c u w → ⊥
   none_enters p w l z u mu s =
@@ -302,42 +339,83 @@ busy_more {m} {k} {i = i} {m' = m'} b l d =
     last : (x : ℕ) → x ≡ i → Marked m' x → 0 < get_or k x 0
     last x p e = rw p (offer_busy d l (rw p at e))
 
-pub peeling_next : {o n c : List ℕ} {a m m₁ m₂ : List Bool} {k k₁ k₂ q q₁ q₂ : List ℕ} {h t t₁ t₂ w u : ℕ} (v : ℕ)
-    → Peeling o n c a m k q h t × (h < t)
+pub record Offering (o n c : List ℕ) (a m : List Bool) (k q : List ℕ) (h t : ℕ) (ws : List ℕ) (i : ℕ) : Type 0 where
+  pub peel : Peel o n c a m k q h t
+  pub busy : (x : ℕ) → x < 512 → Marked m x → 0 < get_or k x 0 ⊎ Waits ws i 2 x
+
+pub offering_begins : {o n c : List ℕ} {a m : List Bool} {k k' q : List ℕ} {h t : ℕ} {v : ℕ} (ws : List ℕ) (i : ℕ)
+    → Peeling o n c a m k q h t
+    → h < t
     → v ≡ get_or q h 0
-    → w ≡ one o n c v
-    → u ≡ other o n c v
-    → Plus k₁ (hits w) k
-    → Plus k₂ (hits u) k₁
-    → Offered m k₂ q t w m₁ q₁ t₁
-    → Offered m₁ k₂ q₁ t₁ u m₂ q₂ t₂
-    → Peeling o n c a m₂ k₂ q₂ (h + 1) t₂
-peeling_next {m₂ = m₂} {k} {k₁} {k₂} {w = w} {u = u} v (p, l) e ew eu p₁ p₂ d₁ d₂ =
+    → ws ≡ nexts o n c v
+    → Plus k' (times ws i) k
+    → i ≡ 2
+    → Offering o n c a m k' q (h + 1) t ws 0
+offering_begins {o} {n} {c} {m = m} {k} {k'} {v = v} ws i r l e ew d j =
     record {
-      peel = offer_peel (offer_peel (peel_next v p.peel l e ew eu p₁ p₂) d₁) d₂;
-      busy = record {
-        counts = λ x b f.
-            by_cases (ℕ_discrete x w) (λ i. by_one x i b f)
-            (λ i. by_cases (ℕ_discrete x u) (λ j. by_other x j b f) (λ j. by_none x i j b f));
-      };
+      peel = peel_next ws r.peel l e ew p;
+      busy = λ x b f. go x b f (ℕ_discrete (get_or ws 0 0) x) (ℕ_discrete (get_or ws 1 0) x);
     }
   where
-    by_one : (x : ℕ) → x ≡ w → x < 512 → Marked m₂ x → 0 < get_or k₂ x 0
-    by_one x i b f = rw i (offer_busy d₁ (omega arith) (rw i at (offer_shrinks d₂ x f)))
+    p : Plus k' (times ws 2) k
+    p = rw j at d
 
-    by_other : (x : ℕ) → x ≡ u → x < 512 → Marked m₂ x → 0 < get_or k₂ x 0
-    by_other x j b f = rw j (offer_busy d₂ (omega arith) (rw j at f))
-
-    by_none : (x : ℕ) → (x ≡ w → ⊥) → (x ≡ u → ⊥) → x < 512 → Marked m₂ x → 0 < get_or k₂ x 0
-    by_none x i j b f =
-        omega (
+    go :
+        (x : ℕ)
+        → x < 512
+        → Marked m x
+        → Dec (get_or ws 0 0 ≡ x)
+        → Dec (get_or ws 1 0 ≡ x)
+        → 0 < get_or k' x 0 ⊎ Waits ws 0 2 x
+    go x b f (yes z) y = inr (record { place = 0; from = omega arith; before = omega arith; holds = z })
+    go x b f (no z) (yes y) = inr (record { place = 1; from = omega arith; before = omega arith; holds = y })
+    go x b f (no z) (no y) =
+        inl (omega (
           arith,
-          p.busy.counts x b (offer_shrinks d₁ x (offer_shrinks d₂ x f)),
-          p₁.each x b,
-          p₂.each x b,
-          hits_none w x (λ y. i (sym y)),
-          hits_none u x (λ y. j (sym y)),
-        )
+          r.busy.counts x b f,
+          p.each x b,
+          times_more ws 0 (get_or ws 0 0) x refl,
+          times_more ws 1 (get_or ws 1 0) x refl,
+          sum_zero (λ j. hits (get_or ws j 0) x),
+          hits_none (get_or ws 0 0) x z,
+          hits_none (get_or ws 1 0) x y,
+        ))
+
+pub offering_more :
+    {o n c : List ℕ} {a m : List Bool} {k q : List ℕ} {h t w : ℕ} {m' : List Bool} {q' : List ℕ} {t' : ℕ}
+    {ws : List ℕ} {i : ℕ}
+    → Offering o n c a m k q h t ws i
+    → w ≡ get_or ws i 0
+    → Offered m k q t w m' q' t'
+    → Offering o n c a m' k q' h t' ws (i + 1)
+offering_more {k = k} {w = w} {m' = m'} {ws = ws} {i} r e d =
+    record {
+      peel = offer_peel r.peel d;
+      busy = λ x b f. ⊎_elim inl (λ z. still x b f z (ℕ_discrete z.place i)) (r.busy x b (offer_shrinks d x f));
+    }
+  where
+    still :
+        (x : ℕ)
+        → x < 512
+        → Marked m' x
+        → (z : Waits ws i 2 x)
+        → Dec (z.place ≡ i)
+        → 0 < get_or k x 0 ⊎ Waits ws (i + 1) 2 x
+    still x b f z (yes p) =
+        let y : x ≡ w = sym z.holds ∙ ap (λ j. get_or ws j 0) p ∙ sym e in
+        inl (rw y (offer_busy d (omega arith) (rw y at f)))
+    still x b f z (no p) =
+        inr (record { place = z.place; from = omega (arith, z.from); before = z.before; holds = z.holds })
+
+pub offering_ends : {o n c : List ℕ} {a m : List Bool} {k q : List ℕ} {h t : ℕ} {ws : List ℕ} {i : ℕ}
+    → Offering o n c a m k q h t ws i
+    → 2 ≤ i
+    → Peeling o n c a m k q h t
+offering_ends r l =
+    record {
+      peel = r.peel;
+      busy = record { counts = λ x b f. ⊎_elim (λ z. z) (λ z. absurd (omega (arith, z.from, z.before))) (r.busy x b f) };
+    }
 
 pub peel_ends : {o n c : List ℕ} {a m : List Bool} {k q : List ℕ} {h t : ℕ} → Peeling o n c a m k q h t → t ≤ h → Peeled o n c a t
 peel_ends {o} {n} {c} {a} {m} {k} {q} {h} {t} p l = record { fewer = λ b. some b; all = λ b. none b }
@@ -386,3 +464,13 @@ peel_ends {o} {n} {c} {a} {m} {k} {q} {h} {t} p l = record { fewer = λ b. some 
     none b v r =
         let d = (p.peel.kept v r).1.from in
         omega (arith, parts, among_part 512 m (λ y. 1) v (inside v d) d.marked)
+
+pub cyclic_by : {o n c : List ℕ} {a : List Bool} {r m : ℕ}
+    → Peeled o n c a r
+    → m ≡ among 512 a (λ v. 1)
+    → (b : Bool)
+    → (b ≡ true) ↔ (r < m)
+    → Cyclic o n c a b
+cyclic_by p e true d = p.fewer (omega (arith, d.0 refl))
+cyclic_by {r = r} {m} p e false d =
+    p.all (by_cases (dec_lt r m) (λ l. let z : false ≡ true = d.1 l in absurd (cc)) (λ l. omega arith))

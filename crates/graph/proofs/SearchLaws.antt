@@ -1,7 +1,8 @@
 -- Laws of the search: a node's two next values are its steps, and each part of the search keeps what the marked numbers
 -- and the queue promise. Assumes nothing.
 --
---   one_new, one_old, other_old, other_new == the next value that the number of the choice picks, as it is read
+--   either_of               == a number that is not 0 or 1 is the choice either
+--   nexts_by                == the next values that a choice picks, as they are read
 --   one_steps, other_steps  == both next values of a node are steps
 --   steps_two               == each step goes to one of the two
 --   room_begins             == no marks and an empty queue
@@ -13,52 +14,42 @@
 --   visit_begun             == a visit to a reached number keeps the search
 --   search_begins           == the first visit, to the start, begins the search
 --   search_steps            == the number at the head leaves the queue when it is done
---   end_done, both_done     == an end is done; a node is done when both its next values are marked
---   follow_end, follow_both == a turn of the search, at an end and at a node
+--   end_done, nexts_done    == an end is done; a node is done when both its next values are marked
+--   Following o n c s m q h t v ws i == the search, where v was taken from the head and the first i numbers of ws are marked
+--   follow_begins, follow_visit, follow_ends == a turn at a node: it is taken, its next values are visited, it is done
+--   follow_end              == a turn at an end
 --   search_ends             == when none waits, exactly what is reached is marked
---   leads_ends              == when none waits, a mark tells whether a path leads there
 use Prim.Native.Nat.{ℕ, zero, suc, ◌+◌, ◌≤◌, ◌<◌}
 use native.Mathlib.Omega.{arith}
 use native.Mathlib.Decide.{ℕ_discrete}
 use mathlib.Core.Path.{◌≡◌, refl, sym, ◌∙◌, ap}
 use mathlib.Core.Bool.{Bool, true, false, cond}
-use mathlib.Core.List.{List}
+use mathlib.Core.List.{List, [], ◌∷◌}
 use mathlib.Core.Logic.{◌⊎◌, inl, inr, ⊎_elim, by_cases}
 use lib.ListN.{get_or, length, set, replicate, length-set, length-replicate}
 use lib.Seq.{get_or-set_same, get_or-set_other}
 use Rattle.graph.specs.Graph.{Choice, old, new, either, Ok, Path, stop, step, table, choices, choice_of}
-use Rattle.graph.specs.Search.{Steps, Reached, Leads}
-use Rattle.graph.specs.Working.{one, other, one_of, other_of, among, Tables, Room, Visited, over, known, fresh, Waits}
+use Rattle.graph.specs.Search.{Steps, Reached}
+use Rattle.graph.specs.Working.{one, other, one_of, other_of, nexts, among, Room, Visited, over, known, fresh, Waits}
 use Rattle.graph.specs.Working.{Done, Search, Begun}
 use Rattle.graph.proofs.Paths.{path_ends, path_more}
 use Rattle.graph.proofs.Sums.{set_cases, mark_inside, get_d_any, get_d_repeat, sum_none, among_part, among_bound}
 use Rattle.graph.proofs.Sums.{among_less}
 
-pub one_new : (o n c : List ℕ) (v r : ℕ) → Tables o n c × (v < 512) → get_or c v 0 ≡ 1 → r ≡ get_or n v 0 → r ≡ one o n c v
-unfolding one
-one_new o n c v r (t, l) e h = rw e (h ∙ get_d_any n v 0 512 (omega (arith, t.news)))
+pub either_of : (k : ℕ) → (k ≡ 0 → ⊥) → (k ≡ 1 → ⊥) → choice_of k ≡ either
+either_of zero d e = absurd (d refl)
+either_of (suc zero) d e = absurd (e refl)
+either_of (suc (suc k)) d e = refl
 
-pub one_old : (o n c : List ℕ) (v r : ℕ) → Tables o n c × (v < 512) → (get_or c v 0 ≡ 1 → ⊥) → r ≡ get_or o v 0 → r ≡ one o n c v
-unfolding one
-one_old o n c v r (t, l) d h = h ∙ get_d_any o v 0 512 (omega (arith, t.olds)) ∙ sym (at (get_or c v 0) d)
-  where
-    at : (k : ℕ) → (k ≡ 1 → ⊥) → one_of (choice_of k) (table o v) (table n v) ≡ table o v
-    at zero u = refl
-    at (suc zero) u = absurd (u refl)
-    at (suc (suc k)) u = refl
-
-pub other_old : (o n c : List ℕ) (v r : ℕ) → Tables o n c × (v < 512) → get_or c v 0 ≡ 0 → r ≡ get_or o v 0 → r ≡ other o n c v
-unfolding other
-other_old o n c v r (t, l) e h = rw e (h ∙ get_d_any o v 0 512 (omega (arith, t.olds)))
-
-pub other_new : (o n c : List ℕ) (v r : ℕ) → Tables o n c × (v < 512) → (get_or c v 0 ≡ 0 → ⊥) → r ≡ get_or n v 0 → r ≡ other o n c v
-unfolding other
-other_new o n c v r (t, l) d h = h ∙ get_d_any n v 0 512 (omega (arith, t.news)) ∙ sym (at (get_or c v 0) d)
-  where
-    at : (k : ℕ) → (k ≡ 0 → ⊥) → other_of (choice_of k) (table o v) (table n v) ≡ table n v
-    at zero u = absurd (u refl)
-    at (suc zero) u = refl
-    at (suc (suc k)) u = refl
+pub nexts_by : (o n c : List ℕ) (v a b : ℕ) (q : Choice)
+    → v < length o × v < length n
+    → choices c v ≡ q
+    → a ≡ get_or o v 0
+    → b ≡ get_or n v 0
+    → one_of q a b ∷ other_of q a b ∷ [] ≡ nexts o n c v
+unfolding one other
+nexts_by o n c v a b q (l, k) e ea eb =
+    rw (e, ea, eb, get_d_any o v 0 512 l, get_d_any n v 0 512 k) refl
 
 one_bit : (q : Choice) (a b : ℕ) → (t : Bool) × Ok q t × (cond t b a ≡ one_of q a b)
 one_bit old a b = (false, tt, refl)
@@ -220,18 +211,21 @@ pub visit_begun : {o n c : List ℕ} {s h : ℕ} {m : List Bool} {q : List ℕ} 
 visit_begun {s = s} r P d =
     record { search = visit_search r.search P d; begins = λ l. visit_grows r.search.room d s (r.begins l) }
 
-pub search_begins : (o n c : List ℕ) {s : ℕ} {m : List Bool} {q : List ℕ} {m' : List Bool} {q' : List ℕ} {t' : ℕ}
-    → Room m q 0
-    → Visited m q 0 s m' q' t'
-    → Begun o n c s m' q' 0 t'
-search_begins o n c {s} {m} {q} r d = record { search = visit_search empty (stop refl) d; begins = visit_marks r d }
+pub search_begins : (o n c : List ℕ) {s h t : ℕ} {m : List Bool} {q : List ℕ} {m' : List Bool} {q' : List ℕ} {t' : ℕ}
+    → Room m q t
+    → t ≡ 0
+    → h ≡ 0
+    → Visited m q t s m' q' t'
+    → Begun o n c s m' q' h t'
+search_begins o n c {s} {h} {t} {m} {q} r no_tail no_head d =
+    record { search = visit_search empty (stop refl) d; begins = visit_marks r d }
   where
     none : (w : ℕ) → get_or m w false ≡ true → ⊥
     none w e =
         let k : w < length m = mark_inside m w e in
         omega (arith, among_part 514 m (λ v. 1) w (omega (arith, r.marks)) e, r.counted)
 
-    empty : Search o n c s m q 0 0
+    empty : Search o n c s m q h t
     empty =
         record {
           room = r;
@@ -267,54 +261,77 @@ search_steps {o} {n} {c} {s} {h} {m} {q} {t} r l d =
 end_done : (o n c : List ℕ) (m : List Bool) (v : ℕ) → 512 ≤ v → Done o n c m v
 end_done o n c m v l = record { done = λ w s k. absurd (omega (arith, s.node)) }
 
-both_done : (o n c : List ℕ) (m : List Bool) (v : ℕ)
-    → (one o n c v < 514 → get_or m (one o n c v) false ≡ true)
-    → (other o n c v < 514 → get_or m (other o n c v) false ≡ true)
+nexts_done : (o n c : List ℕ) (m : List Bool) (v : ℕ) (ws : List ℕ)
+    → ws ≡ nexts o n c v
+    → ((j : ℕ) → j < 2 → get_or ws j 0 < 514 → get_or m (get_or ws j 0) false ≡ true)
     → Done o n c m v
-both_done o n c m v f g =
+nexts_done o n c m v ws e f =
     record {
-      done = λ w s l. ⊎_elim (λ e. rw (← e) (f (omega arith))) (λ e. rw (← e) (g (omega arith))) (steps_two o n c v w s);
+      done = λ w s l.
+          ⊎_elim
+          (λ d. let g : get_or ws 0 0 ≡ w = ap (λ x. get_or x 0 0) e ∙ d in rw (← g) (f 0 (omega arith) (omega arith)))
+          (λ d. let g : get_or ws 1 0 ≡ w = ap (λ x. get_or x 1 0) e ∙ d in rw (← g) (f 1 (omega arith) (omega arith)))
+          (steps_two o n c v w s);
     }
 
+pub record Following (o n c : List ℕ) (s : ℕ) (m : List Bool) (q : List ℕ) (h t v : ℕ) (ws : List ℕ) (i : ℕ) : Type 0 where
+  pub place : ℕ
+  pub moved : h ≡ place + 1
+  pub waits : place < t
+  pub holds : get_or q place 0 ≡ v
+  pub begun : Begun o n c s m q place t
+  pub marked : (j : ℕ) → j < i → get_or ws j 0 < 514 → get_or m (get_or ws j 0) false ≡ true
+
+module _ {o n c : List ℕ} {s : ℕ} {m : List Bool} {q : List ℕ} {h t v : ℕ} {ws : List ℕ} where
+  pub follow_begins : Begun o n c s m q h t → h < t → v ≡ get_or q h 0 → Following o n c s m q (h + 1) t v ws 0
+  follow_begins r l e =
+      record { place = h; moved = refl; waits = l; holds = sym e; begun = r; marked = λ j k. absurd (omega arith) }
+
+  pub follow_visit : {i : ℕ} {m' : List Bool} {q' : List ℕ} {t' : ℕ} (w : ℕ)
+      → Following o n c s m q h t v ws i
+      → v < 512
+      → i < 2
+      → ws ≡ nexts o n c v
+      → w ≡ get_or ws i 0
+      → Visited m q t w m' q' t'
+      → Following o n c s m' q' h t' v ws (i + 1)
+  follow_visit {i} {m'} {q'} {t'} w f l k e ew d =
+      record {
+        place = f.place;
+        moved = f.moved;
+        waits = (visit_queue d f.place f.waits).0;
+        holds = (visit_queue d f.place f.waits).1 ∙ f.holds;
+        begun = visit_begun f.begun (path_more P (goes i k (ew ∙ ap (λ x. get_or x i 0) e))) d;
+        marked =
+            λ j b z.
+            by_cases (ℕ_discrete j i) (λ p. here j p z) (λ p. visit_grows f.begun.search.room d _ (f.marked j (omega arith) z));
+      }
+    where
+      P : Path (Steps o n c) v s
+      P = f.begun.search.reached v (rw f.holds at (f.begun.search.queued f.place f.waits))
+
+      goes : (j : ℕ) → j < 2 → w ≡ get_or (nexts o n c v) j 0 → Steps o n c v w
+      goes zero b z = rw z (one_steps o n c v l)
+      goes (suc zero) b z = rw z (other_steps o n c v l)
+      goes (suc (suc j)) b z = absurd (omega arith)
+
+      here : (j : ℕ) → j ≡ i → get_or ws j 0 < 514 → get_or m' (get_or ws j 0) false ≡ true
+      here j p z =
+          let g : get_or ws j 0 ≡ w = ap (λ x. get_or ws x 0) p ∙ sym ew in
+          rw g (visit_marks f.begun.search.room d (omega arith))
+
+  pub follow_ends : {i : ℕ} → Following o n c s m q h t v ws i → 2 ≤ i → ws ≡ nexts o n c v → Begun o n c s m q h t
+  follow_ends f l e =
+      let d = nexts_done o n c m v ws e (λ j k. f.marked j (omega arith)) in
+      rw f.moved (search_steps f.begun f.waits (rw f.holds d))
+
 pub follow_end : {o n c : List ℕ} {s h : ℕ} {m : List Bool} {q : List ℕ} {t : ℕ} (v : ℕ)
-    → Begun o n c s m q h t × (h < t)
+    → Begun o n c s m q h t
+    → h < t
     → v ≡ get_or q h 0
     → 512 ≤ v
     → Begun o n c s m q (h + 1) t
-follow_end {o} {n} {c} {m = m} v (r, l) e k = search_steps r l (rw e at (end_done o n c m v k))
-
-pub follow_both : {o n c : List ℕ} {s h : ℕ} {m m₁ m₂ : List Bool} {q q₁ q₂ : List ℕ} {t t₁ t₂ a b : ℕ} (v : ℕ)
-    → Begun o n c s m q h t × (h < t)
-    → v ≡ get_or q h 0
-    → v < 512
-    → a ≡ one o n c v
-    → b ≡ other o n c v
-    → Visited m q t a m₁ q₁ t₁
-    → Visited m₁ q₁ t₁ b m₂ q₂ t₂
-    → Begun o n c s m₂ q₂ (h + 1) t₂
-follow_both {o} {n} {c} {s} {h} {m} {m₁} {m₂} {q} {q₁} {q₂} {t} {t₁} {t₂} {a} {b} v (r, l) e k ea eb d₁ d₂ =
-    search_steps r₂ h₂.0 (rw (h₂.1 ∙ h₁.1 ∙ sym e) (both_done o n c m₂ v one_marked other_marked))
-  where
-    P : Path (Steps o n c) v s
-    P = r.search.reached v (rw e (r.search.queued h l))
-
-    r₁ : Begun o n c s m₁ q₁ h t₁
-    r₁ = visit_begun r (path_more P (rw ea (one_steps o n c v k))) d₁
-
-    r₂ : Begun o n c s m₂ q₂ h t₂
-    r₂ = visit_begun r₁ (path_more P (rw eb (other_steps o n c v k))) d₂
-
-    h₁ : (h < t₁) × (get_or q₁ h 0 ≡ get_or q h 0)
-    h₁ = visit_queue d₁ h l
-
-    h₂ : (h < t₂) × (get_or q₂ h 0 ≡ get_or q₁ h 0)
-    h₂ = visit_queue d₂ h h₁.0
-
-    one_marked : one o n c v < 514 → get_or m₂ (one o n c v) false ≡ true
-    one_marked z = rw ea at (visit_grows r₁.search.room d₂ a (visit_marks r.search.room d₁ (omega arith)))
-
-    other_marked : other o n c v < 514 → get_or m₂ (other o n c v) false ≡ true
-    other_marked z = rw eb at (visit_marks r₁.search.room d₂ (omega arith))
+follow_end {o} {n} {c} {m = m} v r l e k = search_steps r l (rw e at (end_done o n c m v k))
 
 path_low : (o n c : List ℕ) {a w : ℕ} → Path (Steps o n c) w a → w < 514 → a < 514
 path_low o n c (stop e) l = omega arith
@@ -334,13 +351,3 @@ search_ends {o} {n} {c} {s} {h} {m} {q} {t} r l =
     along : {w a : ℕ} → w < 514 → get_or m a false ≡ true → Path (Steps o n c) w a → get_or m w false ≡ true
     along k e (stop d) = rw (← d) e
     along k e (step {a = x} {b = y} u P) = along k ((done x e).done y u (path_low o n c P k)) P
-
-pub leads_ends : {o n c : List ℕ} {s h : ℕ} {m : List Bool} {q : List ℕ} {t : ℕ}
-    → Begun o n c s m q h t
-    → t ≤ h
-    → (w : ℕ) (r : Bool)
-    → w < 514
-    → get_or m w false ≡ r
-    → Leads o n c s w r
-leads_ends r l w true b e = (b, (search_ends r l).marked_is_reached w e)
-leads_ends r l w false b e = λ k P. let z : ◌≡◌ {A = ℕ} 0 1 = cc ((search_ends r l).reached_is_marked w k P) in omega arith

@@ -11,11 +11,13 @@
 --   sum_part       == a sum is at least each of its numbers
 --   sum_bound      == a sum of k numbers up to b is at most k times b
 --   sum_none       == a sum of nothing is 0
+--   sum_front      == a sum is its first number and the sum of the others
 --   get_d_repeat   == a list of one value holds that value, with itself as default
 --   sum_found      == a sum that is not 0 has a number that is not 0
 --   sum_longer     == a longer sum is at least a shorter one
 --   among_part, among_bound == the same for a sum over marks
 --   among_more, among_same == the sum over one number more, marked or not
+--   among_count    == the number of marks is the count of what is true
 --   among_less     == a sum over marks, and the sum without one of them
 --   sent_same      == a store behind the first k places of a queue leaves their sum
 --   sent_more      == the sum over one place more
@@ -30,6 +32,8 @@ use mathlib.Core.List.{List, [], ◌∷◌}
 use mathlib.Core.Logic.{◌⊎◌, inl, inr, by_cases}
 use lib.ListN.{get_or, length, set, replicate}
 use lib.Seq.{get_or-set_same, get_or-set_other}
+use Rattle.std.specs.List.{count_by}
+use Rattle.std.proofs.lemmas.List.Recursion.{is_count_by}
 use Rattle.graph.specs.Working.{sum, among, Sent}
 
 pub set_cases : {A : Type 0} (l : List A) (i j : ℕ) (a d : A)
@@ -125,6 +129,11 @@ unfolding sum
 sum_none zero f h = refl
 sum_none (suc k) f h = let e : sum k f ≡ 0 = sum_none k f h in let d : f k ≡ 0 = h k in omega arith
 
+pub sum_front : (k : ℕ) (f : ℕ → ℕ) → sum (suc k) f ≡ f 0 + sum k (λ i. f (suc i))
+unfolding sum
+sum_front zero f = omega arith
+sum_front (suc k) f = let e : sum (suc k) f ≡ f 0 + sum k (λ i. f (suc i)) = sum_front k f in omega arith
+
 pub get_d_repeat : {A : Type 0} (k i : ℕ) (a : A) → get_or (replicate k a) i a ≡ a
 get_d_repeat zero i a = refl
 get_d_repeat (suc k) zero a = refl
@@ -149,6 +158,16 @@ among_more k m f e =
 pub among_same : (k : ℕ) (m : List Bool) (f : ℕ → ℕ) → get_or m k false ≡ false → among (k + 1) m f ≡ among k m f
 among_same k m f e =
     let z = sum_more k (λ v. cond (get_or m v false) (f v) 0) ∙ ap (λ b. among k m f + cond b (f k) 0) e in omega arith
+
+pub among_count : (m : List Bool) → among (length m) m (λ v. 1) ≡ count_by (λ b. b) m
+among_count m = is_count_by marks (λ b. b) (sum_zero (λ v. 0)) more m
+  where
+    marks : List Bool → ℕ
+    marks l = among (length l) l (λ v. 1)
+
+    more : (b : Bool) (l : List Bool) → marks (b ∷ l) ≡ cond b (1 + marks l) (marks l)
+    more true l = omega (arith, sum_front (length l) (λ v. cond (get_or (true ∷ l) v false) 1 0))
+    more false l = omega (arith, sum_front (length l) (λ v. cond (get_or (false ∷ l) v false) 1 0))
 
 pub among_less : (k i : ℕ) (m m' : List Bool) (f : ℕ → ℕ)
     → i < k

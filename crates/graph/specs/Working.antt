@@ -4,7 +4,7 @@
 --
 --   one o n c v           == the old next value of v, or the new one where v's choice is new only
 --   other o n c v         == the new next value of v, or the old one where v's choice is old only
---   Tables o n c          == the three lists have 512 entries each
+--   nexts o n c v         == both, as a list
 --   sum k f               == f 0 + f 1 + .. + f (k - 1)
 --   among k m f           == the sum of f over the marked numbers below k
 --   hits w x              == 1 where w is x, else 0
@@ -28,7 +28,7 @@
 --   Peeling o n c a m k q h t == the same as Peel, and all marked nodes are busy
 --   Tally o n c a k i     == k counts the steps into each node from the nodes of a below i
 --   Peeled o n c a r      == r is the number of nodes in a exactly if there is no closed path in a
-use Rattle.std.specs.Prelude.{ℕ, zero, suc, ◌+◌, ◌≤◌, ◌<◌, ◌≡◌, Bool, true, false, cond, List, ◌⊎◌, get_or, length, set, eqb}
+use Rattle.std.specs.Prelude.{ℕ, zero, suc, ◌+◌, ◌≤◌, ◌<◌, ◌≡◌, Bool, true, false, cond, List, [], ◌∷◌, ◌⊎◌, get_or, length, set, eqb}
 use Rattle.graph.specs.Graph.{Choice, old, new, either, table, choices, Path, Around, Within}
 use Rattle.graph.specs.Search.{Steps, Marked, Cyclic}
 
@@ -48,10 +48,8 @@ one o n c v = one_of (choices c v) (table o v) (table n v)
 unfoldable pub other : List ℕ → List ℕ → List ℕ → ℕ → ℕ
 other o n c v = other_of (choices c v) (table o v) (table n v)
 
-pub record Tables (o n c : List ℕ) : Type 0 where
-  pub olds : length o ≡ 512
-  pub news : length n ≡ 512
-  pub kinds : length c ≡ 512
+abbrev pub nexts : List ℕ → List ℕ → List ℕ → ℕ → List ℕ
+nexts o n c v = one o n c v ∷ other o n c v ∷ []
 
 unfoldable pub sum : ℕ → (ℕ → ℕ) → ℕ
 sum zero f = 0

@@ -1,297 +1,265 @@
 #![tactic(auto)]
 
-ghost use Rattle.std.specs.Prelude.{◌≡◌, ◌+◌, ◌<◌, true, false, length, get_or};
-ghost use Rattle.graph.specs.Search.{Reached, Leads, Cyclic};
-ghost use Rattle.graph.specs.Working.{one, other, Tables, Room, Visited, Begun};
-ghost use Rattle.graph.specs.Working.{among, hits, Plus, Offered, Peel, Peeling, Tally, Peeled};
+ghost use Rattle.std.specs.Prelude.{◌≡◌, ◌+◌, ◌<◌, ◌≤◌, true, false, get_or, set, replicate, ◌⊎◌, IsNone, IfSome};
+ghost use Rattle.graph.specs.Search.{Reached, Leads, Cyclic, Steps};
+ghost use Rattle.graph.specs.Graph.{Path};
+ghost use Rattle.graph.specs.Working.{nexts, Room, Visited, Offered, Tally, Peeled};
+ghost use Rattle.std.specs.Fn.{FnReturnsAt};
 
-use house::wide;
+// What a node's choice allows: its old next value only, its new one only, or either; any other number allows both too.
+// Kept: numbers and no enum, since the C calls bench_reach and bench_cyclic lend the choices as bytes, and their contracts speak of
+// these numbers.
+pub const OLD: u8 = 0;
 
-// The old next value of v, or the new one where v's choice is new only.
-fn one(old: &[u16], new: &[u16], choice: &[u8], v: usize) -> usize
-    requires { Tables old.now new.now choice.now × (v < 512) }
-    ensures { result ≡ one old.now new.now choice.now v }
-{
-    if choice[v] == 1 {
-        return wide(new[v]);
-    }
-    wide(old[v])
-}
+pub const NEW: u8 = 1;
 
-// The new next value of v, or the old one where v's choice is old only.
-fn other(old: &[u16], new: &[u16], choice: &[u8], v: usize) -> usize
-    requires { Tables old.now new.now choice.now × (v < 512) }
-    ensures { result ≡ other old.now new.now choice.now v }
-{
-    if choice[v] == 0 {
-        return wide(old[v]);
-    }
-    wide(new[v])
-}
+pub const EITHER: u8 = 2;
 
-// Marks w and puts it into the queue, unless it has no mark of its own or is marked already. Returns the queue's end. There
-// is room, because the queue holds what is marked and w is not.
-fn visit(seen: &mut [bool; 514], queue: &mut [u16; 514], tail: usize, w: usize) -> usize
-    requires { Room seen.old queue.old tail }
-    ensures { Visited seen.old queue.old tail w seen.new queue.new result }
-{
-    if 514 <= w {
-        return tail;
-    }
-    if seen[w] {
-        return tail;
-    }
-    seen[w] = true;
-    queue[tail] = w as u16;
-    tail + 1
-}
-
-// One turn of the search: visits both next values of the number at the queue's head, if that is a node. Returns the queue's end.
-fn follow(
-    old: &[u16],
-    new: &[u16],
-    choice: &[u8],
-    start: usize,
-    seen: &mut [bool; 514],
-    queue: &mut [u16; 514],
+// Numbers in the order of their coming: those from the head on wait.
+#[derive(Drop)]
+struct Queue<const N: usize> {
+    items: [u16; N],
     head: usize,
     tail: usize,
-) -> usize
-    requires tables { Tables old.now new.now choice.now }
-    requires begun { Begun old.now new.now choice.now start seen.old queue.old head tail × (head < tail) }
-    ensures { Begun old.now new.now choice.now start seen.new queue.new (head + 1) result }
-{
-    let v = wide(queue[head]);
-    if 512 <= v {
-        return tail;
-    }
-    let a = one(old, new, choice, v);
-    let b = other(old, new, choice, v);
-    let t = visit(seen, queue, tail, a);
-    visit(seen, queue, t, b)
+    ghost room: { tail ≤ N },
 }
 
-// The marks of all numbers to which a path from start leads: start is visited first, and then what is followed from each
-// number in the queue, until none is left.
-fn search(old: &[u16], new: &[u16], choice: &[u8], start: usize) -> [bool; 514]
-    requires { Tables old.now new.now choice.now }
-    ensures { Reached old.now new.now choice.now start result }
-{
-    let mut seen = [false; 514];
-    let mut queue = [0u16; 514];
-    let mut tail = visit(&mut seen, &mut queue, 0, start);
-    let mut head = 0;
-    while head < tail {
-        tail = follow(old, new, choice, start, &mut seen, &mut queue, head, tail);
-        head += 1;
-    }
-    seen
-}
-
-// The marks of all numbers below 514 to which a path from start leads: nodes, 512 for nothing and 513 for handed off.
-pub fn reach(old: &[u16; 512], new: &[u16; 512], choice: &[u8; 512], start: usize) -> [bool; 514]
-    ensures { Reached old.now new.now choice.now start result }
-{
-    search(old, new, choice, start)
-}
-
-// Whether a path leads from from to the number `to`: the same search, left as soon as `to` is marked.
-fn meets(old: &[u16], new: &[u16], choice: &[u8], from: usize, to: usize) -> bool
-    requires { Tables old.now new.now choice.now }
-    ensures { Leads old.now new.now choice.now from to result }
-{
-    if 514 <= to {
-        return false;
-    }
-    let mut seen = [false; 514];
-    let mut queue = [0u16; 514];
-    let mut tail = visit(&mut seen, &mut queue, 0, from);
-    let mut head = 0;
-    while head < tail {
-        if seen[to] {
-            return true;
-        }
-        tail = follow(old, new, choice, from, &mut seen, &mut queue, head, tail);
-        head += 1;
-    }
-    seen[to]
-}
-
-// Whether a path leads from `from` to the number `to`; to a number over 513 it says no. It takes no longer than the search needs
-// to come there.
-pub fn leads(old: &[u16; 512], new: &[u16; 512], choice: &[u8; 512], from: usize, to: usize) -> bool
-    ensures { Leads old.now new.now choice.now from to result }
-{
-    meets(old, new, choice, from, to)
-}
-
-// One more step into w; a number over 511 has no count.
-fn raise(count: &mut [u16; 512], w: usize)
-    requires { (length count.old ≡ 512) × (w < 512 → get_or count.old w 0 < 65535) }
-    ensures { Plus count.old (hits w) count.new }
-{
-    if 512 <= w {
-        return;
-    }
-    count[w] = count[w] + 1;
-}
-
-// One step into w less; a number over 511 has no count.
-fn lower(count: &mut [u16; 512], w: usize)
-    requires { (length count.old ≡ 512) × (w < 512 → 0 < get_or count.old w 0) }
-    ensures { Plus count.new (hits w) count.old }
-{
-    if 512 <= w {
-        return;
-    }
-    count[w] = count[w] - 1;
-}
-
-// Counts the two steps from v, if v is in the set.
-fn tally(
-    old: &[u16],
-    new: &[u16],
-    choice: &[u8],
-    alive: &[bool; 512],
-    count: &mut [u16; 512],
-    v: usize,
-)
-    requires tables { Tables old.now new.now choice.now × (v < 512) }
-    requires tally { Tally old.now new.now choice.now alive.now count.old v }
-    ensures { Tally old.now new.now choice.now alive.now count.new (v + 1) }
-{
-    if !alive[v] {
-        return;
-    }
-    let a = one(old, new, choice, v);
-    let b = other(old, new, choice, v);
-    raise(count, a);
-    raise(count, b);
-}
-
-// The number of steps into each node from the nodes of the set.
-fn counts(old: &[u16], new: &[u16], choice: &[u8], alive: &[bool; 512]) -> [u16; 512]
-    requires { Tables old.now new.now choice.now }
-    ensures { Tally old.now new.now choice.now alive.now result 512 }
-{
-    let mut count = [0u16; 512];
-    for v in 0..512 {
-        tally(old, new, choice, alive, &mut count, v);
-    }
-    count
-}
-
-// Takes w away and puts it into the queue, if it is a node that remains and no step is counted into it. Returns the queue's end.
-fn offer(
-    rest: &mut [bool; 512],
-    count: &[u16; 512],
-    queue: &mut [u16; 512],
-    tail: usize,
-    w: usize,
-) -> usize
-    requires { get_or rest.old w false ≡ true → tail < 512 }
-    ensures { Offered rest.old count.now queue.old tail w rest.new queue.new result }
-{
-    if 512 <= w {
-        return tail;
-    }
-    if !rest[w] {
-        return tail;
-    }
-    if 0 < count[w] {
-        return tail;
-    }
-    rest[w] = false;
-    queue[tail] = w as u16;
-    tail + 1
-}
-
-// One turn of the peeling: the steps from the node at the queue's head no longer count, and its two next values are taken away if
-// no step is left into them. Returns the queue's end.
-fn take_next(
-    old: &[u16],
-    new: &[u16],
-    choice: &[u8],
-    alive: &[bool; 512],
-    rest: &mut [bool; 512],
-    count: &mut [u16; 512],
-    queue: &mut [u16; 512],
-    head: usize,
-    tail: usize,
-) -> usize
-    requires tables { Tables old.now new.now choice.now }
-    requires peeling { Peeling old.now new.now choice.now alive.now rest.old count.old queue.old head tail × (head < tail) }
-    ensures { Peeling old.now new.now choice.now alive.now rest.new count.new queue.new (head + 1) result }
-{
-    let v = wide(queue[head]);
-    let a = one(old, new, choice, v);
-    let b = other(old, new, choice, v);
-    lower(count, a);
-    lower(count, b);
-    let t = offer(rest, count, queue, tail, a);
-    offer(rest, count, queue, t, b)
-}
-
-// Takes away the nodes into which no step leads at first. Returns the queue's end.
-fn take_first(
-    old: &[u16],
-    new: &[u16],
-    choice: &[u8],
-    alive: &[bool; 512],
-    rest: &mut [bool; 512],
-    count: &[u16; 512],
-    queue: &mut [u16; 512],
-) -> usize
-    requires { Peel old.now new.now choice.now alive.now rest.old count.now queue.old 0 0 }
-    ensures { Peeling old.now new.now choice.now alive.now rest.new count.now queue.new 0 result }
-{
-    let mut tail = 0;
-    for w in 0..512 {
-        tail = offer(rest, count, queue, tail, w);
-    }
-    tail
-}
-
-// The number of nodes that peeling takes away from the set.
-fn peeled(old: &[u16], new: &[u16], choice: &[u8], alive: &[bool; 512]) -> usize
-    requires { Tables old.now new.now choice.now × (length alive.now ≡ 512) }
-    ensures { Peeled old.now new.now choice.now alive.now result }
-{
-    let mut count = counts(old, new, choice, alive);
-    let mut rest = *alive;
-    let mut queue = [0u16; 512];
-    let mut tail = take_first(old, new, choice, alive, &mut rest, &count, &mut queue);
-    let mut head = 0;
-    while head < tail {
-        tail = take_next(
-            old, new, choice, alive, &mut rest, &mut count, &mut queue, head, tail,
-        );
-        head += 1;
-    }
-    tail
-}
-
-// The number of marks in the set.
-fn many(alive: &[bool]) -> usize
-    requires { length alive.now ≡ 512 }
-    ensures { result ≡ among 512 alive.now (λ v. 1) }
-{
-    let mut n = 0;
-    for i in 0..512 {
-        if alive[i] {
-            n += 1;
+impl<const N: usize> Queue<N> {
+    // None has come.
+    fn new() -> Self
+        ensures items { result.items ≡ replicate N 0 }
+        ensures head { result.head ≡ 0 }
+        ensures tail { result.tail ≡ 0 }
+    {
+        Queue {
+            items: [0; N],
+            head: 0,
+            tail: 0,
         }
     }
-    n
+
+    // Puts w at the tail.
+    fn push(&mut self, w: usize)
+        requires room { self.old.tail < N }
+        requires fits { w < 65536 }
+        ensures items { self.new.items ≡ set self.old.items self.old.tail w }
+        ensures head { self.new.head ≡ self.old.head }
+        ensures tail { self.new.tail ≡ self.old.tail + 1 }
+    {
+        self.items[self.tail] = w as u16;
+        self.tail += 1;
+    }
+
+    // Takes the number at the head, if one waits there.
+    fn pop(&mut self) -> Option<usize>
+        ensures none { IsNone result → (self.old.tail ≤ self.old.head) × (self.new ≡ self.old) }
+        ensures some { IfSome
+            result
+            (λ v.
+            (self.old.head < self.old.tail)
+            × (v ≡ get_or self.old.items self.old.head 0)
+            × (self.new ≡ record self.old { head = self.old.head + 1 })) }
+    {
+        if self.head < self.tail {
+            let v = usize::from(self.items[self.head]);
+            self.head += 1;
+            Some(v)
+        } else {
+            None
+        }
+    }
 }
 
-// Whether a closed path lies within the set: whether peeling leaves nodes of it.
-pub fn cyclic(old: &[u16; 512], new: &[u16; 512], choice: &[u8; 512], alive: &[bool; 512]) -> bool
-    ensures { Cyclic old.now new.now choice.now alive.now result }
-{
-    let all = many(alive);
-    if peeled(old, new, choice, alive) < all {
-        return true;
+// How far a search has come: the marks of the numbers that it came to, and these numbers in a queue.
+#[derive(Drop)]
+struct Search {
+    seen: [bool; 514],
+    queue: Queue<514>,
+}
+
+impl Search {
+    // Nothing is marked, and none waits.
+    fn new() -> Self
+        ensures room { Room result.seen result.queue.items result.queue.tail }
+        ensures empty { (result.queue.head ≡ 0) × (result.queue.tail ≡ 0) }
+    {
+        Search {
+            seen: [false; 514],
+            queue: Queue::new(),
+        }
     }
-    false
+
+    // Marks w and puts it into the queue, unless it has no mark of its own or is marked already. There is room, because the queue
+    // holds what is marked and w is not.
+    fn visit(&mut self, w: usize)
+        requires { Room self.old.seen self.old.queue.items self.old.queue.tail }
+        ensures visited { Visited
+            self.old.seen
+            self.old.queue.items
+            self.old.queue.tail
+            w
+            self.new.seen
+            self.new.queue.items
+            self.new.queue.tail }
+        ensures head { self.new.queue.head ≡ self.old.queue.head }
+    {
+        if w < 514 && !self.seen[w] {
+            self.seen[w] = true;
+            self.queue.push(w);
+        }
+    }
+
+    // Marks all numbers to which a path from start leads, or as many of them as are enough. The start is visited first, and then
+    // the next values of each node in the queue, until none is left.
+    fn run<F: Fn(&[bool; 514]) -> bool>(&mut self, graph: &Graph, start: usize, enough: F)
+        requires room { Room self.old.seen self.old.queue.items self.old.queue.tail }
+        requires empty { (self.old.queue.head ≡ 0) × (self.old.queue.tail ≡ 0) }
+        requires callable { F.IsAlwaysCallable enough }
+        ensures reached { (w : _) → get_or self.new.seen w false ≡ true → Path (Steps graph.now.old.now graph.now.new.now graph.now.choice.now) w start }
+        ensures all { Reached graph.now.old.now graph.now.new.now graph.now.choice.now start self.new.seen ⊎ FnReturnsAt F.Fn enough self.new.seen true }
+    {
+        self.visit(start);
+        while let Some(v) = self.queue.pop() {
+            if enough(&self.seen) {
+                break;
+            }
+            if v < 512 {
+                for w in graph.nexts(v) {
+                    self.visit(w);
+                }
+            }
+        }
+    }
+}
+
+// How far a peeling has come: what remains of the set, and the nodes taken away in a queue.
+#[derive(Drop)]
+struct Peeling {
+    rest: [bool; 512],
+    queue: Queue<512>,
+}
+
+impl Peeling {
+    // Takes w away, if it is a node that remains and no step is counted into it.
+    fn offer(&mut self, count: &[u16; 512], w: usize)
+        requires { get_or self.old.rest w false ≡ true → self.old.queue.tail < 512 }
+        ensures offered { Offered
+            self.old.rest
+            count.now
+            self.old.queue.items
+            self.old.queue.tail
+            w
+            self.new.rest
+            self.new.queue.items
+            self.new.queue.tail }
+        ensures head { self.new.queue.head ≡ self.old.queue.head }
+    {
+        if w >= 512 || !self.rest[w] || count[w] > 0 {
+            return;
+        }
+        self.rest[w] = false;
+        self.queue.push(w);
+    }
+}
+
+// Two tables of next values, and what each node may use of them: 0 its old next value only, 1 its new one only, any other number
+// either. A next value is a node below 512, 512 for nothing, or 513 for handed off.
+// Kept: next values stay numbers, since the C calls bench_reach and bench_cyclic lend these tables and their contracts speak of the
+// numbers.
+#[derive(Clone, Copy)]
+pub struct Graph<'a> {
+    pub old: &'a [u16; 512],
+    pub new: &'a [u16; 512],
+    pub choice: &'a [u8; 512],
+}
+
+impl Graph<'_> {
+    // The two next values that v's choice allows, or twice the only one.
+    fn nexts(&self, v: usize) -> [usize; 2]
+        requires { v < 512 }
+        ensures { result ≡ nexts self.now.old.now self.now.new.now self.now.choice.now v }
+    {
+        let Graph { old, new, choice } = *self;
+        let old = usize::from(old[v]);
+        let new = usize::from(new[v]);
+        match choice[v] {
+            OLD => [old, old],
+            NEW => [new, new],
+            _ => [old, new],
+        }
+    }
+
+    // The number of steps into each node from the nodes of the set.
+    fn counts(&self, alive: &[bool; 512]) -> [u16; 512]
+        ensures { Tally self.now.old.now self.now.new.now self.now.choice.now alive.now result 512 }
+    {
+        let mut count = [0; 512];
+        for (v, marked) in alive.iter().enumerate() {
+            if *marked {
+                for w in self.nexts(v) {
+                    if w < 512 {
+                        count[w] += 1;
+                    }
+                }
+            }
+        }
+        count
+    }
+
+    // The number of nodes that peeling takes away from the set: first those into which no step leads. The steps from a node that was
+    // taken away no longer count, and its next values are taken away if no step is left into them.
+    fn peeled(&self, alive: &[bool; 512]) -> usize
+        ensures { Peeled self.now.old.now self.now.new.now self.now.choice.now alive.now result }
+    {
+        let mut count = self.counts(alive);
+        let mut peeling = Peeling {
+            rest: *alive,
+            queue: Queue::new(),
+        };
+        for w in 0..512 {
+            peeling.offer(&count, w);
+        }
+        while let Some(v) = peeling.queue.pop() {
+            let nexts = self.nexts(v);
+            for w in nexts {
+                if w < 512 {
+                    count[w] -= 1;
+                }
+            }
+            for w in nexts {
+                peeling.offer(&count, w);
+            }
+        }
+        peeling.queue.tail
+    }
+
+    // The marks of all numbers below 514 to which a path from start leads: nodes, 512 for nothing and 513 for handed off.
+    pub fn reach(&self, start: usize) -> [bool; 514]
+        ensures { Reached self.now.old.now self.now.new.now self.now.choice.now start result }
+    {
+        let mut search = Search::new();
+        search.run(self, start, |_| false);
+        search.seen
+    }
+
+    // Whether a path leads from `from` to the number `to`; to a number over 513 it says no. It takes no longer than the search
+    // needs to come there.
+    pub fn leads(&self, from: usize, to: usize) -> bool
+        ensures { Leads self.now.old.now self.now.new.now self.now.choice.now from to result }
+    {
+        if to >= 514 {
+            return false;
+        }
+        let mut search = Search::new();
+        search.run(self, from, |seen| seen[to]);
+        search.seen[to]
+    }
+
+    // Whether a closed path lies within the set: whether peeling leaves nodes of it.
+    pub fn cyclic(&self, alive: &[bool; 512]) -> bool
+        ensures { Cyclic self.now.old.now self.now.new.now self.now.choice.now alive.now result }
+    {
+        let all: usize = alive.iter().map(|marked| usize::from(*marked)).sum();
+        self.peeled(alive) < all
+    }
 }

@@ -4,3 +4,4 @@ pub mod BitLaws
 pub mod SetLaws
 pub mod StoreLaws
 pub mod OneReply
+pub mod Finding

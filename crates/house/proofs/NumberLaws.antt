@@ -7,11 +7,11 @@
 --   bytes_le         == the bytes of the number of some bytes are these
 --   length_numbers, length_entries, length_words == how many numbers there are
 --   get_d_numbers    == number i is the number of the w bytes from w * i
---   get_d_entries, get_d_entries_past == entry i is byte 2 i and 256 times byte 2 i + 1; past the end it is 0
---   le_four, get_d_words, get_d_words_past == word i is two halves of four bytes; past the end it is 0
+--   le_chunk         == number i is that of the bytes of chunk i, and 0 past the end, where they are zeros
+--   le_two, le_eight == the number of two or eight bytes is what std's `from_le_bytes` reads
 --   numbers_under, entries_under, words_under == how large a number can be
 --   put_number_in, put_number_out == a number that is whole is stored; for another nothing is
---   put_number_two, put_number_eight == storing an entry or a word byte by byte
+--   number_fits, put_number_past == a number that is there is whole; where it is not nothing changes
 --   length_put_number, numbers_put, entries_put, words_put == after a number is put: the length, and the numbers
 --   numbers_append, entries_append == the numbers of two lists that are joined where a number ends
 --   length_encode, encode_under, numbers_encode, entries_encode, encode_numbers, encode_entries == encoding and reading
@@ -21,17 +21,15 @@ use Prim.Native.Nat.{ℕ, zero, suc, ◌+◌, ◌*◌, ◌/◌, ◌%◌, ◌^◌
 use mathlib.Core.Path.{◌≡◌, refl, sym, ap, ◌∙◌}
 use mathlib.Core.Bool.{Bool, true, false, cond}
 use mathlib.Core.List.{List, [], ◌∷◌, ◌++◌}
-use native.Mathlib.Nat.{mul-suc, mul-zero, add_comm, zero-add, add-suc, add-zero, suc-add}
-use native.Mathlib.Nat.{mul_comm, mul_assoc, mul-le-mul_left, div-lt_iff_lt-mul, pow-suc, one-le-pow}
-use native.Mathlib.Numerals.{add-one}
+use native.Mathlib.Nat.{mul-suc, mul-zero, add_comm, zero-add, add-suc, suc-add}
+use native.Mathlib.Nat.{mul_comm, mul-le-mul_left, div-lt_iff_lt-mul, le-div_iff_mul-le, pow-suc, one-le-pow}
 use native.Mathlib.Decide.{dec_lt}
 use native.Mathlib.Omega.{arith}
 use borrow.Author.Tests.{le-leb, lt-leb}
 use lib.Dec.{leb}
-use lib.ListN.{length, get_or, take, drop, set, length-append, length-drop, get_or-eq_default}
+use lib.ListN.{length, get_or, take, drop, set, replicate, length-append, length-drop}
 use lib.Seq.{
   drop-drop,
-  drop-cons,
   drop-set-add,
   take-set-le,
   sets,
@@ -48,6 +46,8 @@ use lib.Seq.{
   take-add,
   get_or-drop,
 }
+use Rattle.std.specs.Int.{w16, w64, from_le_bytes}
+use Rattle.std.specs.Simd.{first_chunks}
 use Rattle.house.specs.Numbers.{le, bytes, numbers, entries, words, eight, put_number, encode, Whole}
 
 pub record Under (m : ℕ) (l : List ℕ) : Type 0 where
@@ -133,59 +133,39 @@ get_d_numbers w (suc n) b (suc i) h =
     get_d_numbers w n (drop w b) i (omega arith)
     ∙ ap (λ (l : List ℕ). le (take w l)) (drop-drop (w * i) w b ∙ rw (mul-suc w i, add_comm (w * i) w) refl)
 
--- the number of w + 1 bytes from j + n: the first of them, and 256 times the number of the others
-le_at : (w : ℕ) (b : List ℕ) (j n : ℕ) → j + n < length b → le (take (suc w) (drop (j + n) b)) ≡ get_or b (j + n) 0 + 256 * le (take w (drop (j + suc n) b))
+pub eight_same : (ws : List ℕ) → length ws ≡ 8 → eight ws ≡ ws
+eight_same [] e = absurd (omega arith)
+eight_same (a ∷ []) e = absurd (omega arith)
+eight_same (a ∷ b ∷ []) e = absurd (omega arith)
+eight_same (a ∷ b ∷ c ∷ []) e = absurd (omega arith)
+eight_same (a ∷ b ∷ c ∷ d ∷ []) e = absurd (omega arith)
+eight_same (a ∷ b ∷ c ∷ d ∷ f ∷ []) e = absurd (omega arith)
+eight_same (a ∷ b ∷ c ∷ d ∷ f ∷ g ∷ []) e = absurd (omega arith)
+eight_same (a ∷ b ∷ c ∷ d ∷ f ∷ g ∷ h ∷ []) e = absurd (omega arith)
+eight_same (a ∷ b ∷ c ∷ d ∷ f ∷ g ∷ h ∷ i ∷ []) e = refl
+eight_same (a ∷ b ∷ c ∷ d ∷ f ∷ g ∷ h ∷ i ∷ j ∷ ws) e = absurd (omega arith)
+
+le_zeros : (w : ℕ) → le (replicate w 0) ≡ 0
 unfolding le
-le_at w b j n h = rw (drop-cons b (j + n) 0 h, add-suc j n)
+le_zeros zero = refl
+le_zeros (suc w) = omega (arith, le_zeros w)
 
-le_none : (l : List ℕ) → le (take 0 l) ≡ 0
+pub le_chunk : (w n : ℕ) (b : List ℕ) (i : ℕ) → le (get_or (first_chunks w n b) i (replicate w 0)) ≡ get_or (numbers w n b) i 0
+unfolding numbers
+le_chunk w zero b i = le_zeros w
+le_chunk w (suc n) b zero = refl
+le_chunk w (suc n) b (suc i) = le_chunk w n (drop w b) i
+
+pub le_two : (l : List ℕ) → length l ≡ 2 → from_le_bytes w16 l ≡ le l
 unfolding le
-le_none l = refl
+le_two [] e = absurd (omega arith)
+le_two (a ∷ []) e = absurd (omega arith)
+le_two (a ∷ b ∷ []) e = omega arith
+le_two (a ∷ b ∷ c ∷ l) e = absurd (omega arith)
 
-le_two : (b : List ℕ) (j : ℕ) → j + 2 ≤ length b → le (take 2 (drop j b)) ≡ get_or b j 0 + 256 * get_or b (j + 1) 0
-le_two b j h =
-    let e : le (take 2 (drop (j + 0) b)) ≡ get_or b (j + 0) 0 + 256 * get_or b (j + 1) 0 =
-    omega (arith, le_at 1 b j 0 (omega arith), le_at 0 b j 1 (omega arith), le_none (drop (j + 2) b)) in
-    rw (add-zero j) at e
-
-pub le_four : (b : List ℕ) (j : ℕ) → j + 4 ≤ length b
-    → le (take 4 (drop j b)) ≡ get_or b j 0 + 256 * (get_or b (j + 1) 0 + 256 * (get_or b (j + 2) 0 + 256 * get_or b (j + 3) 0))
-le_four b j h =
-    let e : le (take 4 (drop (j + 0) b)) ≡ get_or b (j + 0) 0 + 256 * (get_or b (j + 1) 0 + 256 * (get_or b (j + 2) 0 + 256 * get_or b (j + 3) 0)) =
-    omega (
-      arith,
-      le_at 3 b j 0 (omega arith),
-      le_at 2 b j 1 (omega arith),
-      le_at 1 b j 2 (omega arith),
-      le_at 0 b j 3 (omega arith),
-      le_none (drop (j + 4) b),
-    ) in
-    rw (add-zero j) at e
-
-le_append : (a b : List ℕ) → le (a ++ b) ≡ le a + 256 ^ length a * le b
+pub le_eight : (l : List ℕ) → length l ≡ 8 → from_le_bytes w64 l ≡ le l
 unfolding le
-le_append [] b = omega arith
-le_append (x ∷ a) b = rw (le_append a b, pow-suc 256 (length a), mul_comm (256 ^ length a) 256, mul_assoc 256 (256 ^ length a) (le b)) (omega arith)
-
-pub get_d_entries : (b : List ℕ) (i : ℕ) → i < length b / 2 → get_or (entries b) i 0 ≡ get_or b (2 * i) 0 + 256 * get_or b (2 * i + 1) 0
-unfolding entries
-get_d_entries b i h = get_d_numbers 2 (length b / 2) b i h ∙ le_two b (2 * i) (omega arith)
-
-pub get_d_words : (b : List ℕ) (i : ℕ) → i < length b / 8
-    → get_or (words b) i 0 ≡ le (take 4 (drop (8 * i) b)) + 4294967296 * le (take 4 (drop (8 * i + 4) b))
-unfolding words
-get_d_words b i h =
-    let l : length (take 4 (drop (8 * i) b)) ≡ 4 = length-take-le 4 (drop (8 * i) b) (omega (arith, length-drop (8 * i) b)) in
-    get_d_numbers 8 (length b / 8) b i h
-    ∙ ap le (take-add 4 4 (drop (8 * i) b))
-    ∙ le_append (take 4 (drop (8 * i) b)) (take 4 (drop 4 (drop (8 * i) b)))
-    ∙ rw (l, drop-drop 4 (8 * i) b)
-
-pub get_d_words_past : (b : List ℕ) (i : ℕ) → length b / 8 ≤ i → get_or (words b) i 0 ≡ 0
-get_d_words_past b i h = get_or-eq_default (words b) 0 (rw (length_words b) h)
-
-pub get_d_entries_past : (b : List ℕ) (i : ℕ) → length b / 2 ≤ i → get_or (entries b) i 0 ≡ 0
-get_d_entries_past b i h = get_or-eq_default (entries b) 0 (rw (length_entries b) h)
+le_eight l e = omega (arith, ap le (eight_same l e))
 
 pub numbers_under : (w n : ℕ) (b : List ℕ) → Under 256 b → Under (256 ^ w) (numbers w n b)
 unfolding numbers
@@ -248,46 +228,13 @@ pub put_number_out : (w : ℕ) (b : List ℕ) (i x : ℕ) → length b < w * i +
 unfolding put_number
 put_number_out w b i x h = rw (lt-leb _ _ h)
 
-pub put_number_two : (b : List ℕ) (i x : ℕ) → 2 * i + 2 ≤ length b
-    → set (set b (2 * i) (x % 256)) (2 * i + 1) (x / 256 % 256) ≡ put_number 2 b i x
-unfolding bytes
-put_number_two b i x h = rw (put_number_in 2 b i x h, add-one (2 * i))
+pub number_fits : (w i n : ℕ) → 0 < w → i < n / w → w * i + w ≤ n
+number_fits w i n h l = omega (arith, mul-suc w i, mul_comm w (suc i), (le-div_iff_mul-le h).0 l)
 
-pub put_number_eight : (l : List ℕ) (i x : ℕ) → 8 * i + 8 ≤ length l
-    → set
-    (set
-    (set
-    (set
-    (set
-    (set
-    (set (set l (8 * i) (x % 256)) (8 * i + 1) (x / 256 % 256))
-    (8 * i + 2)
-    (x / 256 / 256 % 256))
-    (8 * i + 3)
-    (x / 256 / 256 / 256 % 256))
-    (8 * i + 4)
-    (x / 256 / 256 / 256 / 256 % 256))
-    (8 * i + 5)
-    (x / 256 / 256 / 256 / 256 / 256 % 256))
-    (8 * i + 6)
-    (x / 256 / 256 / 256 / 256 / 256 / 256 % 256))
-    (8 * i + 7)
-    (x / 256 / 256 / 256 / 256 / 256 / 256 / 256 % 256)
-    ≡ put_number 8 l i x
-unfolding bytes
-put_number_eight l i x h =
-    let j = 8 * i in
-    rw (
-      put_number_in 8 l i x h,
-      add-suc j 6,
-      add-suc j 5,
-      add-suc j 4,
-      add-suc j 3,
-      add-suc j 2,
-      add-suc j 1,
-      add-suc j 0,
-      add-zero j,
-    )
+pub put_number_past : (w : ℕ) (b : List ℕ) (i x : ℕ) → 0 < w → length b / w ≤ i → put_number w b i x ≡ b
+put_number_past w b i x h l =
+    let d : length b / w < suc i = omega arith in
+    put_number_out w b i x (omega (arith, mul-suc w i, mul_comm w (suc i), (div-lt_iff_lt-mul h).0 d))
 
 pub numbers_put : (w n : ℕ) (b : List ℕ) (i x : ℕ) → x < 256 ^ w → w * n ≤ length b
     → numbers w n (put_number w b i x) ≡ set (numbers w n b) i x
@@ -366,18 +313,6 @@ pub encode_entries : (b : List ℕ) → Whole b → Under 256 b → encode 2 (en
 unfolding entries
 encode_entries b h u =
     encode_numbers 2 (length b / 2) b u (omega arith) ∙ take_all (2 * (length b / 2)) b (omega (arith, h.even))
-
-pub eight_same : (ws : List ℕ) → length ws ≡ 8 → eight ws ≡ ws
-eight_same [] e = absurd (omega arith)
-eight_same (a ∷ []) e = absurd (omega arith)
-eight_same (a ∷ b ∷ []) e = absurd (omega arith)
-eight_same (a ∷ b ∷ c ∷ []) e = absurd (omega arith)
-eight_same (a ∷ b ∷ c ∷ d ∷ []) e = absurd (omega arith)
-eight_same (a ∷ b ∷ c ∷ d ∷ f ∷ []) e = absurd (omega arith)
-eight_same (a ∷ b ∷ c ∷ d ∷ f ∷ g ∷ []) e = absurd (omega arith)
-eight_same (a ∷ b ∷ c ∷ d ∷ f ∷ g ∷ h ∷ []) e = absurd (omega arith)
-eight_same (a ∷ b ∷ c ∷ d ∷ f ∷ g ∷ h ∷ i ∷ []) e = refl
-eight_same (a ∷ b ∷ c ∷ d ∷ f ∷ g ∷ h ∷ i ∷ j ∷ ws) e = absurd (omega arith)
 
 pub eight_words : (b : List ℕ) → length b ≡ 64 → eight (words b) ≡ words b
 eight_words b e = eight_same (words b) (omega (arith, length_words b))

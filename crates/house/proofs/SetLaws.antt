@@ -9,11 +9,11 @@
 --   length_put, put_set == a set stays one
 --   size_put         == an id that was not in a set makes it larger by one
 --   put_or, one_shifted == putting an id is a bitwise or in its word
---   size_eight       == the size of a set word by word
+--   size_sum         == the size of a set is the sum of its words' ones
 --   put_out          == putting an id that has no word changes nothing
 --   sets_same        == two sets with the same members are equal
 --   size_count       == the size is the number of members
---   none_more, lowest_here, lowest_none == looking for the lowest id word by word
+--   first_here, none_here == looking for the lowest id word by word
 --   lowest_one       == a set has one lowest id
 use Prim.Native.Nat.{ℕ, zero, suc, ◌+◌, ◌-◌, ◌*◌, ◌/◌, ◌%◌, ◌^◌, ◌<◌, ◌≤◌}
 use mathlib.Core.Path.{◌≡◌, refl, sym, ap, ap₂, ◌∙◌}
@@ -28,9 +28,14 @@ use lib.Count.{ones, count_trailing_zeros}
 use lib.Pow.{pow-lt, shr-shr}
 use lib.ListN.{length, get_or, set, replicate, length-set, get_or-eq_default}
 use lib.Seq.{set_out, get_or-set_same, get_or-set_other, set-get_or, ext_get_or}
+use Rattle.std.specs.Prelude.{Some}
+use Rattle.std.specs.List.{sum_by}
+use Rattle.std.proofs.lemmas.List.Sums.{sum_by-cons}
+use Rattle.std.proofs.lemmas.Bool.{true≢false}
 use Rattle.house.specs.Numbers.{words, eight}
 use Rattle.house.specs.Sets.{bit, has, put, size, count_below, Lowest}
-use Rattle.house.proofs.NumberLaws.{Under, under_nil, under_tail, under_cons, words_under, eight_same}
+use Rattle.house.specs.Finds.{Finds, found}
+use Rattle.house.proofs.NumberLaws.{Under, under_nil, under_tail, under_cons, words_under}
 use Rattle.house.proofs.BitLaws.{
   bit_zero,
   bit_raise_same,
@@ -166,16 +171,10 @@ put_set {ws} i s = record { eight_long = length_put ws i ∙ s.eight_long; words
         (raise_below 64 (get_or ws (i / 64) 0) (i % 64) e (omega arith) (s.words_fit.below (i / 64)))
         s.words_fit)
 
-pub size_eight : (ws : List ℕ) → length ws ≡ 8
-    → size ws
-    ≡ ones (get_or ws 0 0) + ones (get_or ws 1 0) + ones (get_or ws 2 0) + ones (get_or ws 3 0)
-    + (ones (get_or ws 4 0) + ones (get_or ws 5 0) + ones (get_or ws 6 0) + ones (get_or ws 7 0))
+pub size_sum : (ws : List ℕ) → sum_by ones ws ≡ size ws
 unfolding size
-size_eight ws e = ap size (sym (eight_same ws e)) ∙ go (get_or ws 0 0) (get_or ws 1 0) (get_or ws 2 0) (get_or ws 3 0) (get_or ws 4 0) (get_or ws 5 0) (get_or ws 6 0) (get_or ws 7 0)
-  where
-    go : (a b c d f g h i : ℕ) → size (a ∷ b ∷ c ∷ d ∷ f ∷ g ∷ h ∷ i ∷ [])
-        ≡ ones a + ones b + ones c + ones d + (ones f + ones g + ones h + ones i)
-    go a b c d f g h i = omega arith
+size_sum [] = refl
+size_sum (w ∷ ws) = omega (arith, sum_by-cons ones w ws, size_sum ws)
 
 size_set : (ws : List ℕ) (k v : ℕ) → k < length ws → size (set ws k v) + ones (get_or ws k 0) ≡ size ws + ones v
 unfolding size
@@ -243,10 +242,9 @@ has_beyond ws at i h =
     let m : (at + i) % 64 ≡ at % 64 + i = omega arith in
     rw (d, m, shr-shr (get_or ws (at / 64) 0) (at % 64) i)
 
-pub none_more : (ws : List ℕ) (from at z : ℕ) → ((i : ℕ) → from ≤ i → i < at → has ws i ≡ false)
-    → z ≡ count_trailing_zeros 64 (get_or ws (at / 64) 0 / 2 ^ (at % 64))
-    → (i : ℕ) → from ≤ i → i < at + z → i < 64 * (at / 64) + 64 → has ws i ≡ false
-none_more ws from at z f e i g h l = go (dec_lt i at)
+none_more : (ws : List ℕ) (from at i : ℕ) → ((j : ℕ) → from ≤ j → j < at → has ws j ≡ false) → from ≤ i
+    → i < at + count_trailing_zeros 64 (get_or ws (at / 64) 0 / 2 ^ (at % 64)) → i < 64 * (at / 64) + 64 → has ws i ≡ false
+none_more ws from at i f g h l = go (dec_lt i at)
   where
     go : Dec (i < at) → has ws i ≡ false
     go (yes d) = f i g d
@@ -254,31 +252,35 @@ none_more ws from at z f e i g h l = go (dec_lt i at)
         let s : at + (i - at) ≡ i = omega arith in
         rw s at (has_beyond ws at (i - at) (omega arith) ∙ trailing_none 64 (get_or ws (at / 64) 0 / 2 ^ (at % 64)) (i - at) (omega arith))
 
-pub lowest_here : (ws : List ℕ) (from at z : ℕ) → at < 512 → from ≤ at → ((i : ℕ) → from ≤ i → i < at → has ws i ≡ false)
-    → z ≡ count_trailing_zeros 64 (get_or ws (at / 64) 0 / 2 ^ (at % 64)) → z < 64 - at % 64 → Lowest ws from (at + z)
-lowest_here ws from at z h a f e l = record {
-  within = omega arith;
-  none_before = λ i g k. none_more ws from at z f e i g k (omega arith);
-  found = λ g. (
-    omega arith,
-    has_beyond ws at z (omega arith) ∙ rw e (trailing_one 64 (get_or ws (at / 64) 0 / 2 ^ (at % 64)) (omega arith)),
-  );
-}
+-- word k has no one from the id `at` in it on
+pub none_here : (ws : List ℕ) (from at k i : ℕ) → at / 64 ≡ k → ((j : ℕ) → from ≤ j → j < at → has ws j ≡ false)
+    → 64 ≤ at % 64 + count_trailing_zeros 64 (get_or ws k 0 / 2 ^ (at % 64)) → from ≤ i → i < 64 * (k + 1) → has ws i ≡ false
+none_here ws from at k i e f l g h =
+    let m : 64 ≤ at % 64 + count_trailing_zeros 64 (get_or ws (at / 64) 0 / 2 ^ (at % 64)) = rw e l in
+    none_more ws from at i f g (omega arith) (omega arith)
 
-pub lowest_none : (ws : List ℕ) (from at : ℕ) → 512 ≤ at → ((i : ℕ) → from ≤ i → i < at → has ws i ≡ false) → Lowest ws from 512
-lowest_none ws from at h f = record {
-  within = omega arith;
-  none_before = λ i g k. f i g (omega arith);
-  found = λ g. absurd (omega arith);
-}
+-- the lowest one of word k, from the id `at` in it on
+pub first_here :
+    (ws : List ℕ) (from at k : ℕ)
+    → at / 64 ≡ k
+    → k < 8
+    → from ≤ at
+    → ((i : ℕ) → from ≤ i → i < at → has ws i ≡ false)
+    → at % 64 + count_trailing_zeros 64 (get_or ws k 0 / 2 ^ (at % 64)) < 64
+    → Finds (λ i. (from ≤ i) × (has ws i ≡ true)) 512 (Some (at + count_trailing_zeros 64 (get_or ws k 0 / 2 ^ (at % 64))))
+first_here ws from at k e h a f l =
+    let z = count_trailing_zeros 64 (get_or ws (at / 64) 0 / 2 ^ (at % 64)) in
+    let m : at % 64 + z < 64 = rw e l in
+    rw (sym e)
+    (found {r = at + z}
+    (omega arith)
+    (omega arith, has_beyond ws at z m ∙ trailing_one 64 (get_or ws (at / 64) 0 / 2 ^ (at % 64)) (omega arith))
+    (λ i g p. true≢false (sym p.1 ∙ none_more ws from at i f p.0 (omega arith) (omega arith))))
 
 pub lowest_one : {ws : List ℕ} {from r q : ℕ} → Lowest ws from r → Lowest ws from q → r ≡ q
 lowest_one {ws} {from} {r} {q} a b = go (dec_lt r q) (dec_lt q r)
   where
-    clash : (i : ℕ) → has ws i ≡ true → has ws i ≡ false → ⊥
-    clash i e f = let z : ◌≡◌ {A = Bool} true false = cc in let y : ◌≡◌ {A = ℕ} 0 1 = cc in omega arith
-
     go : Dec (r < q) → Dec (q < r) → r ≡ q
-    go (yes l) d = let t = a.found (omega (arith, b.within)) in absurd (clash r t.1 (b.none_before r t.0 l))
-    go (no l) (yes d) = let t = b.found (omega (arith, a.within)) in absurd (clash q t.1 (a.none_before q t.0 d))
+    go (yes l) d = let t = a.found (omega (arith, b.within)) in absurd (true≢false (sym t.1 ∙ b.none_before r t.0 l))
+    go (no l) (yes d) = let t = b.found (omega (arith, a.within)) in absurd (true≢false (sym t.1 ∙ a.none_before q t.0 d))
     go (no l) (no d) = omega arith

@@ -1,3 +1,4 @@
 pub mod Numbers
 pub mod Sets
 pub mod Refusals
+pub mod Finds

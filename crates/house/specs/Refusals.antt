@@ -5,8 +5,12 @@
 --                    lower place
 --   First F r     == of all refusals that apply (F), r is the one that is given
 --   Clear F       == no refusal applies
-use Rattle.std.specs.Prelude.{ℕ, ◌<◌, ◌≡◌}
+--   IsTold r t    == t is what is told of r: its number, where and place
+--   told_text t   == the three numbers in decimal, a space between them
+use Rattle.std.specs.Prelude.{ℕ, ◌<◌, ◌≡◌, List, ◌∷◌, ◌++◌}
+use Rattle.std.specs.Fmt.{decimal}
 use Rattle.house.specs.declared.Refusal.{Refusal}
+use Rattle.house.specs.declared.Told.{Told}
 use Rattle.house.specs.declared.Refusal.TheVariants.{
   Unfit,
   FileLong,
@@ -103,3 +107,11 @@ pub record First (F : Refusal → Type 0) (r : Refusal) : Type 0 where
 
 pub record Clear (F : Refusal → Type 0) : Type 0 where
   pub clear : (q : Refusal) → F q → ⊥
+
+pub record IsTold (r : Refusal) (t : Told) : Type 0 where
+  pub number_is : t.number ≡ number r
+  pub site_is : t.site ≡ site r
+  pub place_is : t.place ≡ place r
+
+abbrev pub told_text : Told → List ℕ
+told_text t = decimal t.number ++ 32 ∷ (decimal t.site ++ 32 ∷ decimal t.place)

@@ -4,16 +4,18 @@
 // which are 64 bytes, little-endian, where they cross a call. Each function here takes any bytes and any number.
 #![tactic(auto)]
 
-ghost use Rattle.std.specs.Prelude.{◌≡◌, false, ◌+◌, ◌<◌, ◌≤◌, length, get_or, take, drop};
-ghost use Rattle.std.specs.Int.Count.{ones, count_trailing_zeros};
+ghost use Rattle.std.specs.Prelude.{ℕ, Some, ◌≡◌, true, ◌/◌, ◌<◌, ◌≤◌, length, get_or, replicate};
 ghost use Rattle.std.proofs.lemmas.List.Edits.{sets};
-ghost use Rattle.house.specs.Numbers.{le, entries, words, eight, put_number};
-ghost use Rattle.house.specs.Sets.{has, put, size, Lowest};
-ghost use Rattle.house.specs.Refusals.{number, site, place};
+ghost use Rattle.house.specs.Numbers.{le, bytes, numbers, entries, words, eight, put_number};
+ghost use Rattle.house.specs.Sets.{has, put, size};
+ghost use Rattle.house.specs.Finds.{Finds};
+ghost use Rattle.house.specs.Refusals.{IsTold, told_text};
+
+use std::{array, fmt};
 
 // The refusals, in the order of their numbers, 1 to 19. A route is 1 for the old one and 2 for the new; rounds count from
 // 1, indexes from 0.
-#[derive(Drop)]
+#[derive(Clone, Copy, Debug, PartialEq, Eq)]
 pub enum Refusal {
     // 1: a lent output is too short, a given set isn't eight words, or a byte input isn't whole entries
     Unfit,
@@ -56,250 +58,170 @@ pub enum Refusal {
 }
 
 // A refusal's number, where (`site`) and place.
-#[derive(Drop)]
+#[derive(Clone, Copy, Debug, PartialEq, Eq)]
 pub struct Told {
     pub number: usize,
     pub site: usize,
     pub place: usize,
 }
 
-// An entry as an index.
-pub fn wide(x: u16) -> usize
-    ensures { result ≡ x }
-{
-    x as usize
+// The three numbers in decimal, a space between them.
+impl fmt::Display for Told {
+    ghost output = { λ t. Some (told_text t) };
+
+    fn fmt<W: fmt::Write>(&self, f: &mut fmt::Formatter<W>) -> fmt::Result {
+        write!(f, "{} {} {}", self.number, self.site, self.place)
+    }
 }
 
-// A byte as an entry.
-fn of_byte(x: u8) -> u16
-    ensures { (result ≡ x) × (result < 256) }
+// The bytes of number `i` of `b`, where each has `W` bytes; zeros where it has none.
+fn bytes_at<const W: usize>(b: &[u8], i: usize) -> [u8; W]
+    requires { 0 < W }
+    ensures { le result ≡ get_or (numbers W (length b.now / W) b.now) i 0 }
 {
-    x as u16
+    b.as_chunks().0.get(i).copied().unwrap_or([0; W])
 }
 
 // Entry `i` of the house list `b`, 0 where it has none: two bytes, the lower first.
 pub fn entry(b: &[u8], i: usize) -> u16
     ensures { result ≡ get_or (entries b.now) i 0 }
 {
-    if i < b.len() / 2 {
-        let j = 2 * i;
-        return of_byte(b[j]) + 256 * of_byte(b[j + 1]);
-    }
-    0
+    u16::from_le_bytes(bytes_at(b, i))
 }
 
-// The number of the four bytes of `b` from `j`, the lowest first.
-fn half(b: &[u8], j: usize) -> u64
-    requires { j + 4 ≤ length b.now }
-    ensures { (result ≡ le (take 4 (drop j b.now))) × (result < 4294967296) }
-{
-    wide8(b[j]) + 256 * (wide8(b[j + 1]) + 256 * (wide8(b[j + 2]) + 256 * wide8(b[j + 3])))
-}
-
-// A byte as a word.
-fn wide8(x: u8) -> u64
-    ensures { (result ≡ x) × (result < 256) }
-{
-    x as u64
-}
-
-// Word `i` of `b`, 0 where it has none: eight bytes, the lowest first, as two halves.
+// Word `i` of `b`, 0 where it has none: eight bytes, the lowest first.
 pub fn word(b: &[u8], i: usize) -> u64
     ensures { result ≡ get_or (words b.now) i 0 }
 {
-    if i < b.len() / 8 {
-        let j = 8 * i;
-        let k = j + 4;
-        return half(b, j) + 4294967296 * half(b, k);
+    u64::from_le_bytes(bytes_at(b, i))
+}
+
+// Makes `x` the bytes of number `i` of `b`, where each has `W` bytes; where `b` has no such number nothing changes.
+fn put_bytes<const W: usize>(b: &mut [u8], i: usize, x: &[u8; W])
+    requires { 0 < W }
+    ensures { (n : ℕ) → x.now ≡ bytes W n → b.new ≡ put_number W b.old i n }
+{
+    if i < b.len() / W {
+        b[W * i..W * i + W].copy_from_slice(x);
     }
-    0
 }
 
 // Makes entry `i` of `b` the number `x`; where `b` has no such entry nothing changes.
 pub fn put_entry(b: &mut [u8], i: usize, x: u16)
     ensures { b.new ≡ put_number 2 b.old i x }
 {
-    if i < b.len() / 2 {
-        let j = 2 * i;
-        let low = (x % 256) as u8;
-        let high = (x / 256 % 256) as u8;
-        b[j] = low;
-        b[j + 1] = high;
-    }
+    put_bytes::<2>(b, i, &x.to_le_bytes());
 }
 
 // Makes word `i` of `b` the number `x`; where `b` has no such word nothing changes.
 pub fn put_word(b: &mut [u8], i: usize, x: u64)
     ensures { b.new ≡ put_number 8 b.old i x }
 {
-    if i < b.len() / 8 {
-        let j = 8 * i;
-        b[j] = (x % 256) as u8;
-        b[j + 1] = (x / 256 % 256) as u8;
-        b[j + 2] = (x / 256 / 256 % 256) as u8;
-        b[j + 3] = (x / 256 / 256 / 256 % 256) as u8;
-        b[j + 4] = (x / 256 / 256 / 256 / 256 % 256) as u8;
-        b[j + 5] = (x / 256 / 256 / 256 / 256 / 256 % 256) as u8;
-        b[j + 6] = (x / 256 / 256 / 256 / 256 / 256 / 256 % 256) as u8;
-        b[j + 7] = (x / 256 / 256 / 256 / 256 / 256 / 256 / 256 % 256) as u8;
-    }
-}
-
-// Copies the bytes of `from` into `to`, from the offset `at` on.
-fn copy(to: &mut [u8], at: usize, from: &[u8])
-    requires { at + length from.now ≤ length to.old }
-    ensures { to.new ≡ sets to.old at from.now }
-{
-    let n = from.len();
-    let mut i = 0;
-    while i < n {
-        to[at + i] = from[i];
-        i += 1;
-    }
+    put_bytes::<8>(b, i, &x.to_le_bytes());
 }
 
 // Copies the bytes of `from` into `to`, from the offset `at` on; those for which `to` is too short are left out.
 pub fn store(to: &mut [u8], at: usize, from: &[u8])
     ensures { to.new ≡ sets to.old at from.now }
 {
-    if to.len() <= at {
-        return;
-    }
-    let room = to.len() - at;
-    if room < from.len() {
-        copy(to, at, &from[..room]);
-        return;
-    }
-    copy(to, at, from);
-}
-
-// The set that the first eight words of `b` are; a word that is not there is 0.
-pub fn set_of(b: &[u8]) -> [u64; 8]
-    ensures { result ≡ eight (words b.now) }
-{
-    [
-        word(b, 0),
-        word(b, 1),
-        word(b, 2),
-        word(b, 3),
-        word(b, 4),
-        word(b, 5),
-        word(b, 6),
-        word(b, 7),
-    ]
-}
-
-// Whether `id` is in the set: bit `id % 64` of word `id / 64`; from 512 on nothing is.
-pub fn member(set: &[u64; 8], id: usize) -> bool
-    ensures { result ≡ has set.now id }
-{
-    if id < 512 {
-        let k = id / 64;
-        let j = id % 64;
-        let x = set[k];
-        return (x >> j) % 2 == 1;
-    }
-    whole(*set)
-}
-
-// Nothing to do: that an array of eight words has eight is known where it is passed by value.
-fn whole(set: [u64; 8]) -> bool
-    ensures { (result ≡ false) × (length set ≡ 8) }
-{
-    false
-}
-
-// Puts `id` into the set; from 512 on nothing changes.
-pub fn put(set: &mut [u64; 8], id: usize)
-    ensures { set.new ≡ put set.old id }
-{
-    if id < 512 {
-        let k = id / 64;
-        let j = id % 64;
-        let w = set[k];
-        set[k] = w | (1 << j);
-    } else {
-        whole(*set);
+    if at < to.len() {
+        let n = from.len().min(to.len() - at);
+        to[at..at + n].copy_from_slice(&from[..n]);
     }
 }
 
-// How many ids are in the set: the ones of its eight words.
-pub fn size(set: &[u64; 8]) -> usize
-    ensures { result ≡ size set.now }
-{
-    whole(*set);
-    let low = count(set[0]) + count(set[1]) + count(set[2]) + count(set[3]);
-    let high = count(set[4]) + count(set[5]) + count(set[6]) + count(set[7]);
-    low + high
+// A set of ids: id `i` is bit `i % 64` of word `i / 64`. From 512 on no id is in it.
+#[derive(Clone, Copy, Debug, PartialEq, Eq)]
+pub struct IdSet {
+    pub words: [u64; 8],
 }
 
-// The number of ones of a word.
-fn count(x: u64) -> usize
-    ensures { (result ≡ ones x) × (result ≤ 64) }
-{
-    u64::count_ones(x) as usize
-}
+impl IdSet {
+    // The set with no id.
+    pub fn new() -> IdSet
+        ensures { result.words ≡ replicate 8 0 }
+    {
+        IdSet { words: [0; 8] }
+    }
 
-// The lowest id in the set that is not below `from`, 512 where there is none: the words in order, from the one that `from`
-// lies in, to the first that has a one there.
-pub fn lowest(set: &[u64; 8], from: usize) -> usize
-    ensures { Lowest set.now from result }
-{
-    let mut at = from;
-    while at < 512 {
-        let k = at / 64;
-        let j = at % 64;
-        let x = set[k];
-        let z = zeros(x >> j);
-        if z < 64 - j {
-            return at + z;
+    // The set that the first eight words of `b` are; a word that is not there is 0.
+    pub fn from_bytes(b: &[u8]) -> IdSet
+        ensures { result.words ≡ eight (words b.now) }
+    {
+        IdSet {
+            words: array::from_fn(|k| word(b, k)),
         }
-        at = 64 * k + 64;
     }
-    512
-}
 
-// The number of a word's zeros below its lowest one, 64 where it has no one.
-fn zeros(x: u64) -> usize
-    ensures { (result ≡ count_trailing_zeros 64 x) × (result ≤ 64) }
-{
-    u64::trailing_zeros(x) as usize
+    // Whether `id` is in the set.
+    pub fn contains(&self, id: usize) -> bool
+        ensures { result ≡ has self.now.words id }
+    {
+        id < 512 && (self.words[id / 64] >> (id % 64)) % 2 == 1
+    }
+
+    // Puts `id` into the set; from 512 on nothing changes.
+    pub fn insert(&mut self, id: usize)
+        ensures { self.new.words ≡ put self.old.words id }
+    {
+        if id < 512 {
+            self.words[id / 64] |= 1 << (id % 64);
+        }
+    }
+
+    // How many ids are in the set: the ones of its words.
+    pub fn len(&self) -> usize
+        ensures { result ≡ size self.now.words }
+    {
+        self.words.iter().map(|w| w.count_ones() as usize).sum()
+    }
+
+    // The lowest id in the set that is not below `from`: the words in order, from the one that `from` lies in, to the first
+    // that has a one there.
+    pub fn first_from(&self, from: usize) -> Option<usize>
+        ensures { Finds (λ k. (from ≤ k) × (has self.now.words k ≡ true)) 512 result }
+    {
+        for k in from / 64..8 {
+            let at = from.max(64 * k);
+            let zeros = (self.words[k] >> (at % 64)).trailing_zeros() as usize;
+            if zeros < 64 - at % 64 {
+                return Some(at + zeros);
+            }
+        }
+        None
+    }
 }
 
 // The three numbers of a refusal, one case for each.
-pub fn tell(r: Refusal) -> Told
-    ensures { (result.number ≡ number r) × (result.site ≡ site r) × (result.place ≡ place r) }
-{
-    match r {
-        Refusal::Unfit => three(1, 0, 0),
-        Refusal::FileLong => three(2, 0, 0),
-        Refusal::RecordWrong(o) => three(3, 0, o),
-        Refusal::RouteLength(w) => three(4, w, 0),
-        Refusal::RouteId(w, i) => three(5, w, i),
-        Refusal::RouteRepeat(w, i) => three(6, w, i),
-        Refusal::EndsDiffer(p) => three(7, 0, p),
-        Refusal::ModeOver => three(8, 0, 0),
-        Refusal::SizesSum => three(9, 0, 0),
-        Refusal::RoundEmpty(t) => three(10, t, 0),
-        Refusal::NotRising(t, i) => three(11, t, i),
-        Refusal::NotDue(t, i) => three(12, t, i),
-        Refusal::Again(t, i) => three(13, t, i),
-        Refusal::Missing(v) => three(14, 0, v),
-        Refusal::BeginsFaulty(t) => three(15, t, 0),
-        Refusal::Drop(t, m) => three(16, t, m),
-        Refusal::Loop(t, m) => three(17, t, m),
-        Refusal::NoJump(v) => three(18, 0, v),
-        Refusal::BothBackward(v) => three(19, 0, v),
-    }
-}
+impl From<Refusal> for Told {
+    ghost from_gives = { IsTold };
 
-// Told, from its three numbers.
-fn three(n: usize, s: usize, p: usize) -> Told
-    ensures { (result.number ≡ n) × (result.site ≡ s) × (result.place ≡ p) }
-{
-    Told {
-        number: n,
-        site: s,
-        place: p,
+    fn from(r: Refusal) -> Told {
+        let (number, site, place) = match r {
+            Refusal::Unfit => (1, 0, 0),
+            Refusal::FileLong => (2, 0, 0),
+            Refusal::RecordWrong(o) => (3, 0, o),
+            Refusal::RouteLength(w) => (4, w, 0),
+            Refusal::RouteId(w, i) => (5, w, i),
+            Refusal::RouteRepeat(w, i) => (6, w, i),
+            Refusal::EndsDiffer(p) => (7, 0, p),
+            Refusal::ModeOver => (8, 0, 0),
+            Refusal::SizesSum => (9, 0, 0),
+            Refusal::RoundEmpty(t) => (10, t, 0),
+            Refusal::NotRising(t, i) => (11, t, i),
+            Refusal::NotDue(t, i) => (12, t, i),
+            Refusal::Again(t, i) => (13, t, i),
+            Refusal::Missing(v) => (14, 0, v),
+            Refusal::BeginsFaulty(t) => (15, t, 0),
+            Refusal::Drop(t, m) => (16, t, m),
+            Refusal::Loop(t, m) => (17, t, m),
+            Refusal::NoJump(v) => (18, 0, v),
+            Refusal::BothBackward(v) => (19, 0, v),
+        };
+        Told {
+            number,
+            site,
+            place,
+        }
     }
 }

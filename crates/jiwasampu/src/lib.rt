@@ -5,19 +5,15 @@
 ghost use Rattle.std.specs.Prelude.{◌<◌, min, ◌≡◌};
 ghost use Rattle.jiwasampu.specs.Lanes.{lanes, refusal_lanes, plan_lanes, CheckCall, PlanCall, QuickCall, WalkCall};
 
-use house::Refusal;
-use plans::plan::Planned;
-use rounds::check::Checked;
+use house::{Refusal, Told};
+use plans::Given;
 use routes::walk::Walked;
 
 // A number as a lane: 65,535 where it does not fit.
 fn lane(x: usize) -> u64
     ensures { (result ≡ min x 65535) × (result < 65536) }
 {
-    if x < 65535 {
-        return x as u64;
-    }
-    65535
+    x.min(65535) as u64
 }
 
 // Four lanes as one number.
@@ -31,17 +27,17 @@ fn pack(a: usize, b: usize, c: usize, d: usize) -> u64
 fn refused(r: Refusal) -> u64
     ensures { result ≡ refusal_lanes r }
 {
-    let told = house::tell(r);
+    let told = Told::from(r);
     pack(told.number, told.site, told.place, 0)
 }
 
 // The lanes of a planner's reply.
-fn planned(reply: Planned) -> u64
+fn planned(reply: Result<Given, Refusal>) -> u64
     ensures { result ≡ plan_lanes reply }
 {
     match reply {
-        Planned::Given(rounds, count) => pack(0, rounds, count, 0),
-        Planned::Refused(r) => refused(r),
+        Ok(given) => pack(0, given.rounds, given.count, 0),
+        Err(r) => refused(r),
     }
 }
 
@@ -59,8 +55,8 @@ pub extern "C" fn jiwasampu_check(
     ensures { CheckCall old.now new.now mode ids.now sizes.now set.old result set.new }
 {
     match rounds::check::check(old, new, mode, ids, sizes, set) {
-        Checked::Accepted(count, dues) => pack(0, count, dues, 0),
-        Checked::Refused(r) => refused(r),
+        Ok(accepted) => pack(0, accepted.rounds, accepted.dues, 0),
+        Err(r) => refused(r),
     }
 }
 
@@ -99,9 +95,9 @@ pub extern "C" fn jiwasampu_walk(old: &[u8], new: &[u8], set: &[u8]) -> u64
     ensures { WalkCall old.now new.now set.now result }
 {
     match routes::walk::walk(old, new, set) {
-        Walked::Arrived(hops) => pack(0, 0, hops, 0),
-        Walked::Dropped(node, hops) => pack(0, 1, hops, node),
-        Walked::Looped(node, hops) => pack(0, 2, hops, node),
-        Walked::Refused(r) => refused(r),
+        Ok(Walked::Arrived(hops)) => pack(0, 0, hops, 0),
+        Ok(Walked::Dropped(node, hops)) => pack(0, 1, hops, node),
+        Ok(Walked::Looped(node, hops)) => pack(0, 2, hops, node),
+        Err(r) => refused(r),
     }
 }

@@ -2,33 +2,33 @@
 --
 --   body_right       == where the answer is a body, the record is right
 --   body_next, body_size == and these are the next offset and the length
---   else_wrong       == where it is none and the file doesn't end there, the record is wrong
+--   scan_wrong       == a wrong record ends going through the records
+--   answers          == what is answered, a record or the end
 --   not_body         == what is no body is one of the two other answers
---   scan_wrong       == then going through the records ends there
+--   same_content     == two contents with the same numbers are the same
 --   all_right_end    == where a round is expected at the end of the file, no record is wrong
 --   goes_on          == behind a body the next kind is expected
 --   Gone f a b q     == the records before the offset q are right, a and b are the lengths of the bodies of the two routes, and a
 --                       round is expected at q
 --   part_body        == the part of the file that is copied is the body of a record
 --   Copying f p ids₀ sizes₀ q count rounds ids sizes == the rounds from the offset p to the offset q are copied
---   copying_right, copying_ids, copying_sizes == there the record is right; lent memory keeps its length
+--   copying_right    == there the record is right
 --   copying_none, copying_more, copying_end == before the first; one round more; at the end of the file
 --   refuses          == a refusal as the reply: lent memory is kept
 --   first_long, first_wrong, first_length == 2, 3 and 4 are given where no lower number applies
 --   read_clear       == no refusal applies where there is room, the file is short, its records are right, and so are the routes' lengths
 --   scanned_wrong, scanned_fine == the same from what going through the records finds
 --   rounds_within, rounds_ready == behind the mode of a fine file rounds are expected, within the file
---   old_few, old_many, new_few, new_many == a fine file with a route of the wrong length
---   old_fits, new_fits == bodies of the right lengths have room
+--   old_wrong, new_wrong == a fine file with a route of the wrong length
 --   all_copied       == all of a fine file is copied: the reply, and lent memory after it
 --   gone_three, gone_more, gone_end == after the first three records; after one round more; at the end of the file
+use Rattle.std.specs.Prelude.{Option, Some, None, Result, Ok, Err, is_err, true}
 use Prim.Native.Nat.{ℕ, ◌+◌, ◌*◌, ◌-◌, ◌/◌, ◌<◌, ◌≤◌}
 use mathlib.Core.Path.{◌≡◌, refl, sym, ap, ◌∙◌}
 use mathlib.Core.Logic.{◌⊎◌, inl, inr}
 use mathlib.Core.List.{List, [], ◌∷◌, ◌++◌}
 use native.Mathlib.Decide.{ℕ_discrete, dec_lt}
 use native.Mathlib.Omega.{arith}
-use denote.Enum.Declared.{tag_of}
 use lib.ListN.{length, take, drop, length-append}
 use lib.Seq.{sets}
 use Rattle.house.specs.Numbers.{le, entries, put_number}
@@ -39,55 +39,46 @@ use Rattle.house.proofs.RefusalLaws.{before_irreflexive, before_number}
 use Rattle.house.proofs.NumberLaws.{Under}
 use Rattle.plans.specs.Replies.{overlaid}
 use Rattle.planfile.specs.File.{size_at, WrongAt, cut, after, Expects, at_front, behind, Ended}
-use Rattle.planfile.specs.Parts.{AllRight, Scans, all_right, one_wrong, Room, Fine, Ready, RoundsIn, Copied}
+use Rattle.planfile.specs.Parts.{AllRight, Scans, all_right, one_wrong, LengthIs, length_right, length_few, length_many, Room, Fine, Ready, RoundsIn, Copied}
 use Rattle.planfile.specs.Replies.{RecordIs, ended, wrong_at, stands, ReadFault, short_old, short_new, short_ids}
 use Rattle.planfile.specs.Replies.{short_sizes, long, wrong, few, many, Reads, refused, content}
-use Rattle.planfile.specs.declared.read.ReadReply.TheVariants.{Content, NotRead}
 use Rattle.planfile.specs.declared.read.Counts.{Counts}
-use Rattle.planfile.specs.declared.read.Scan.TheVariants.{Bodies, WrongFrom}
-use Rattle.planfile.specs.declared.record.RecordReply.{RecordReply}
-use Rattle.planfile.specs.declared.record.RecordReply.TheVariants.{Body, Wrong, End}
-use Rattle.planfile.specs.contracts.record.RecordReply.{the_type}
+use Rattle.planfile.specs.declared.record.Record.{Record}
+use Rattle.planfile.specs.declared.read.Bodies.{Bodies}
+use Rattle.planfile.specs.declared.read.Content.{Content}
 use Rattle.planfile.proofs.OrderLaws.{before_wrong, before_length}
 use Rattle.planfile.proofs.RecordLaws.{Right, right, right_not, body, length_body}
 use Rattle.planfile.proofs.RecordLaws.{next_expected, expects_before, expects_same, expects_place, expects_kind}
 use Rattle.planfile.proofs.FileLaws.{right_at, not_ended, pair_held, body_whole, body_under, body_entries, rounds_none, rounds_more}
-use Rattle.planfile.proofs.StoreLaws.{overlaid_none, length_overlaid, overlaid_bytes, overlaid_more, overlaid_put}
+use Rattle.planfile.proofs.StoreLaws.{overlaid_none, overlaid_bytes, overlaid_more, overlaid_put}
 
-pub body_right : {f : List ℕ} {p k s z n : ℕ} → RecordIs f p k (Body s z n) → Right f k p
+pub body_right : {f : List ℕ} {p k : ℕ} {r : Record} → RecordIs f p k (Ok (Some r)) → Right f k p
 body_right (stands w d e g) = right w
 
-pub body_next : {f : List ℕ} {p k s z n : ℕ} → RecordIs f p k (Body s z n) → n ≡ p + 4 + size_at f p
+pub body_next : {f : List ℕ} {p k : ℕ} {r : Record} → RecordIs f p k (Ok (Some r)) → r.next ≡ p + 4 + size_at f p
 body_next (stands w d e g) = g
 
-pub body_size : {f : List ℕ} {p k s z n : ℕ} → RecordIs f p k (Body s z n) → z ≡ size_at f p
+pub body_size : {f : List ℕ} {p k : ℕ} {r : Record} → RecordIs f p k (Ok (Some r)) → r.size ≡ size_at f p
 body_size (stands w d e g) = e
 
-pub else_wrong :
-    {f : List ℕ} {p k : ℕ} {a : RecordReply}
-    → RecordIs f p k a
-    → (tag_of the_type a ≡ 1) ⊎ (tag_of the_type a ≡ 2)
-    → (Ended f p k → ⊥)
-    → WrongAt f k p
-else_wrong (ended e) t n = absurd (n e)
-else_wrong (wrong_at m w e) t n = w
-else_wrong (stands w d e g) (inl t) n = absurd (omega arith)
-else_wrong (stands w d e g) (inr t) n = absurd (omega arith)
+pub scan_wrong :
+    {f : List ℕ} {p k : ℕ} {e : Refusal} → Expects f p k → RecordIs f p k (Err e) → Scans f (Err e)
+scan_wrong x (wrong_at m w e) = one_wrong x m w e
+
+pub answers :
+    {f : List ℕ} {p k : ℕ} {o q : Option Record} → RecordIs f p k (Ok o) → o ≡ q → RecordIs f p k (Ok q)
+answers x e = rw e at x
 
 pub not_body :
-    (a : RecordReply) → ((s z n : ℕ) → a ≡ Body s z n → ⊥) → (tag_of the_type a ≡ 1) ⊎ (tag_of the_type a ≡ 2)
-not_body (Body s z n) h = absurd (h s z n refl)
-not_body (Wrong q) h = inl refl
-not_body End h = inr refl
+    (a : Result (Option Record) Refusal) → ((r : Record) → a ≡ Ok (Some r) → ⊥) → (is_err a ≡ true) ⊎ (a ≡ Ok None)
+not_body (Ok (Some r)) h = absurd (h r refl)
+not_body (Ok None) h = inr refl
+not_body (Err e) h = inl refl
 
-pub scan_wrong :
-    {f : List ℕ} {p k : ℕ} {a : RecordReply}
-    → Expects f p k
-    → RecordIs f p k a
-    → (tag_of the_type a ≡ 1) ⊎ (tag_of the_type a ≡ 2)
-    → (Ended f p k → ⊥)
-    → Scans f (WrongFrom p)
-scan_wrong x r t n = one_wrong x n (else_wrong r t n) refl
+-- two contents with the same numbers are the same
+pub same_content :
+    {p q : Content} → p.olds ≡ q.olds → p.news ≡ q.news → p.mode ≡ q.mode → p.ids ≡ q.ids → p.rounds ≡ q.rounds → p ≡ q
+same_content v w x y z = λ i. record { olds = v i; news = w i; mode = x i; ids = y i; rounds = z i }
 
 pub all_right_end : {f : List ℕ} {q : ℕ} → Expects f q 4 → q ≡ length f → AllRight f
 all_right_end {f} {q} y e = record { none_wrong = λ {p} {k} x n v. go p k x n v (dec_lt p q) (ℕ_discrete p q) }
@@ -104,17 +95,17 @@ pub record Gone (f : List ℕ) (a b q : ℕ) : Type 0 where
   pub new_size : b ≡ size_at f (4 + a)
 
 pub goes_on :
-    {f : List ℕ} {p k s z n m : ℕ} → Expects f p k → RecordIs f p k (Body s z n) → m ≡ after k → Expects f n m
+    {f : List ℕ} {p k m : ℕ} {r : Record} → Expects f p k → RecordIs f p k (Ok (Some r)) → m ≡ after k → Expects f r.next m
 goes_on x (stands w d e g) h = behind x w g h
 
 pub gone_three :
-    {f : List ℕ} {s s' s'' a b c p q r : ℕ}
-    → RecordIs f 0 1 (Body s a p)
-    → RecordIs f p 2 (Body s' b q)
-    → RecordIs f q 3 (Body s'' c r)
-    → Gone f a b r
-gone_three {f} {s} {s'} {s''} {a} {b} {c} {p} {q} {r} x y z =
-    let e : p ≡ 4 + a = omega (arith, body_next x, body_size x) in
+    {f : List ℕ} {old new mode : Record}
+    → RecordIs f 0 1 (Ok (Some old))
+    → RecordIs f old.next 2 (Ok (Some new))
+    → RecordIs f new.next 3 (Ok (Some mode))
+    → Gone f old.size new.size mode.next
+gone_three {f} {old} {new} {mode} x y z =
+    let e : old.next ≡ 4 + old.size = omega (arith, body_next x, body_size x) in
     record {
       expected = goes_on (goes_on (goes_on (at_front refl refl) x refl) y refl) z refl;
       within = omega (arith, body_next z, (body_right z).within);
@@ -122,7 +113,7 @@ gone_three {f} {s} {s'} {s''} {a} {b} {c} {p} {q} {r} x y z =
       new_size = body_size y ∙ ap (size_at f) e;
     }
 
-pub gone_more : {f : List ℕ} {a b q s z n : ℕ} → Gone f a b q → RecordIs f q 4 (Body s z n) → Gone f a b n
+pub gone_more : {f : List ℕ} {a b q : ℕ} {r : Record} → Gone f a b q → RecordIs f q 4 (Ok (Some r)) → Gone f a b r.next
 gone_more g x =
     record {
       expected = goes_on g.expected x refl;
@@ -131,8 +122,8 @@ gone_more g x =
       new_size = g.new_size;
     }
 
-pub gone_end : {f : List ℕ} {a b q : ℕ} → Gone f a b q → length f ≤ q → Scans f (Bodies a b)
-gone_end g h = all_right (all_right_end g.expected (omega (arith, g.within))) g.old_size g.new_size
+pub gone_end : {f : List ℕ} {a b q : ℕ} → Gone f a b q → RecordIs f q 4 (Ok None) → Scans f (Ok (record { old = a; new = b }))
+gone_end g (ended e) = all_right (all_right_end g.expected e.all_read) g.old_size g.new_size
 
 -- ---- copying
 
@@ -172,12 +163,6 @@ module _ {f : List ℕ} {p : ℕ} {ids₀ sizes₀ : List ℕ} (r : Ready f p id
     pub copying_right : q < length f → Right f 4 q
     copying_right h = right_at r.right g.expected (λ e. absurd (omega (arith, e.all_read)))
 
-    pub copying_ids : length ids ≡ length ids₀
-    copying_ids = ap length g.ids_now ∙ length_overlaid g.is ids₀ (omega (arith, g.count_is, g.used, g.within, r.fits, r.room_ids))
-
-    pub copying_sizes : length sizes ≡ length sizes₀
-    copying_sizes = ap length g.sizes_now ∙ length_overlaid g.zs sizes₀ (omega (arith, g.rounds_is, g.used, g.within, r.fits, r.room_sizes))
-
     copied_round :
         Under 256 f
         → q < length f
@@ -211,10 +196,10 @@ module _ {f : List ℕ} {p : ℕ} {ids₀ sizes₀ : List ℕ} (r : Ready f p id
         → q < length f
         → z ≡ size_at f q
         → x ≡ size_at f q
-        → y ≡ size_at f q
+        → y ≡ size_at f q / 2
         → ids' ≡ sets ids (2 * count) (take (q + 4 + z - (q + 4)) (drop (q + 4) f))
         → sizes' ≡ put_number 2 sizes rounds (x / 2)
-        → Copying f p ids₀ sizes₀ (q + 4 + z) (count + y / 2) (rounds + 1) ids' sizes'
+        → Copying f p ids₀ sizes₀ (q + 4 + z) (count + y) (rounds + 1) ids' sizes'
     copying_more u h ez ex ey ei es = rw (ei, es, part_body f q ez, ez, ex, ey) (copied_round u h)
 
     pub copying_end : length f ≤ q → Copied f p ids₀ sizes₀ (record { ids = count; rounds = rounds }) ids sizes
@@ -233,7 +218,7 @@ module _ {f : List ℕ} {p : ℕ} {ids₀ sizes₀ : List ℕ} (r : Ready f p id
 -- ---- the order of the refusals
 
 module _ {f old new ids sizes : List ℕ} where
-  pub refuses : {r : Refusal} → First (ReadFault f old new ids sizes) r → Reads f old new ids sizes (NotRead r) old new ids sizes
+  pub refuses : {r : Refusal} → First (ReadFault f old new ids sizes) r → Reads f old new ids sizes (Err r) old new ids sizes
   refuses h = refused h refl refl refl refl
 
   module _ (room : Room old new ids sizes) where
@@ -303,20 +288,20 @@ module _ {f old new ids sizes : List ℕ} where
 -- ---- from what going through the records finds
 
 pub scanned_wrong :
-    {f old new ids sizes : List ℕ} {q : ℕ}
+    {f old new ids sizes : List ℕ} {r : Refusal}
     → Room old new ids sizes
     → length f ≤ 4092
-    → Scans f (WrongFrom q)
-    → First (ReadFault f old new ids sizes) (RecordWrong q)
+    → Scans f (Err r)
+    → First (ReadFault f old new ids sizes) r
 scanned_wrong room fits (one_wrong x n v e) =
     rw (sym e) at (first_wrong room fits x n v)
 
 pub scanned_fine :
-    {f old new ids sizes : List ℕ} {a b : ℕ}
+    {f old new ids sizes : List ℕ} {b : Bodies}
     → Room old new ids sizes
     → length f ≤ 4092
-    → Scans f (Bodies a b)
-    → Fine f a b old new ids sizes
+    → Scans f (Ok b)
+    → Fine f b.old b.new old new ids sizes
 scanned_fine room fits (all_right r x y) = record { right = r; old_size = x; new_size = y; fits = fits; room = room }
 
 -- ---- what a fine file holds
@@ -361,15 +346,6 @@ module _ {f : List ℕ} {a b : ℕ} {old new ids sizes : List ℕ} (g : Fine f a
         room_sizes = g.room.for_sizes;
       }
 
-  -- bodies of the right lengths have room
-  pub old_fits : a / 2 ≤ 256 → 0 + length (take (4 + a - 4) (drop 4 f)) ≤ length old
-  old_fits m =
-      omega (arith, ap length (part_body f 0 g.old_size), length_body old_right, g.old_size, old_right.even, g.room.for_old)
-
-  pub new_fits : b / 2 ≤ 256 → 0 + length (take (4 + a + 4 + b - (4 + a + 4)) (drop (4 + a + 4) f)) ≤ length new
-  new_fits m =
-      omega (arith, ap length (part_body f (4 + a) g.new_size), length_body new_right, g.new_size, new_right.even, g.room.for_new)
-
   -- where a route is expected its body is that long
   old_length : {q : ℕ} → Expects f q 1 → size_at f q ≡ a
   old_length x = ap (size_at f) (expects_place x (at_front refl refl) (omega arith)) ∙ sym g.old_size
@@ -398,39 +374,33 @@ module _ {f : List ℕ} {a b : ℕ} {old new ids sizes : List ℕ} (g : Fine f a
       go (yes e) = omega (arith, new_length (rw e at x))
       go (no e) = old_sized l m v q (omega arith) x
 
-  pub old_few : a / 2 < 2 → First (ReadFault f old new ids sizes) (RouteLength 1)
-  old_few l =
+  pub old_wrong : {r : Refusal} → LengthIs 1 (a / 2) (Err r) → First (ReadFault f old new ids sizes) r
+  old_wrong (length_few l) =
       first_length g.room g.fits g.right
       (few (at_front refl refl) (omega arith) (omega (arith, g.old_size)))
       (λ v q h x. absurd (omega (arith, expects_kind x)))
-
-  pub old_many : 256 < a / 2 → First (ReadFault f old new ids sizes) (RouteLength 1)
-  old_many l =
+  old_wrong (length_many l) =
       first_length g.room g.fits g.right
       (many (at_front refl refl) (omega arith) (omega (arith, g.old_size)))
       (λ v q h x. absurd (omega (arith, expects_kind x)))
 
-  pub new_few : 2 ≤ a / 2 → a / 2 ≤ 256 → b / 2 < 2 → First (ReadFault f old new ids sizes) (RouteLength 2)
-  new_few l m h =
+  pub new_wrong : {r : Refusal} → LengthIs 1 (a / 2) (Ok tt) → LengthIs 2 (b / 2) (Err r) → First (ReadFault f old new ids sizes) r
+  new_wrong (length_right l m) (length_few h) =
       first_length g.room g.fits g.right (few at_new (omega arith) (omega (arith, g.new_size))) (old_sized l m)
-
-  pub new_many : 2 ≤ a / 2 → a / 2 ≤ 256 → 256 < b / 2 → First (ReadFault f old new ids sizes) (RouteLength 2)
-  new_many l m h =
+  new_wrong (length_right l m) (length_many h) =
       first_length g.room g.fits g.right (many at_new (omega arith) (omega (arith, g.new_size))) (old_sized l m)
 
   pub all_copied :
       {mode : ℕ} {c : Counts} {o' n' i' z' : List ℕ}
-      → 2 ≤ a / 2
-      → a / 2 ≤ 256
-      → 2 ≤ b / 2
-      → b / 2 ≤ 256
+      → LengthIs 1 (a / 2) (Ok tt)
+      → LengthIs 2 (b / 2) (Ok tt)
       → Under 256 f
       → o' ≡ sets old 0 (take (4 + a - 4) (drop 4 f))
       → n' ≡ sets new 0 (take (4 + a + 4 + b - (4 + a + 4)) (drop (4 + a + 4) f))
       → mode ≡ le (take 2 (drop (4 + a + 4 + b + 4) f))
       → Copied f (4 + a + 4 + b + 4 + 2) ids sizes c i' z'
-      → Reads f old new ids sizes (Content (a / 2) (b / 2) mode c.ids c.rounds) o' n' i' z'
-  all_copied l m l' m' u eo en em c =
+      → Reads f old new ids sizes (Ok (record { olds = a / 2; news = b / 2; mode = mode; ids = c.ids; rounds = c.rounds })) o' n' i' z'
+  all_copied (length_right l m) (length_right l' m') u eo en em c =
       let r = old_right in
       let s = new_right in
       let p : 4 + a ≡ 4 + size_at f 0 = omega (arith, g.old_size) in

@@ -4,6 +4,8 @@
 --   read_written     == a file read and written again has the same bytes if its content passes refusals 4 to 14
 --   ReadBack ..      == the lent memory after reading holds the given bytes at its front, and past them what it held before
 --   written_read     == what the writer writes is read back as it was given
+use Rattle.std.specs.Prelude.{Result, Ok}
+use Rattle.planfile.specs.declared.read.Content.{Content}
 use Prim.Native.Nat.{ℕ, ◌*◌, ◌/◌, ◌<◌, ◌≤◌}
 use mathlib.Core.Path.{◌≡◌, sym, ap, ◌∙◌}
 use mathlib.Core.List.{List, ◌++◌}
@@ -24,16 +26,12 @@ use Rattle.rounds.proofs.ScheduleLaws.{SoundChange, clear_change}
 use Rattle.planfile.specs.File.{file_of, Holds, size_at, Expects}
 use Rattle.planfile.specs.Parts.{Room}
 use Rattle.planfile.specs.Replies.{Reads, refused as not-read, content, WriteFault, short_file, change, Writes, refused as not_written, written}
-use Rattle.planfile.specs.declared.read.ReadReply.{ReadReply}
-use Rattle.planfile.specs.declared.read.ReadReply.TheVariants.{Content}
-use Rattle.planfile.specs.declared.write.WriteReply.{WriteReply}
-use Rattle.planfile.specs.declared.write.WriteReply.TheVariants.{Written}
 use Rattle.house.proofs.RefusalLaws.{first_not_clear}
 use Rattle.planfile.proofs.RecordLaws.{expects_kind}
 use Rattle.planfile.proofs.FileLaws.{length_file, holds_one, holds_right, holds_old, holds_new}
 use Rattle.plans.proofs.CheckAccepts.{front_overlaid}
 use Rattle.planfile.proofs.StoreLaws.{overlaid_back}
-use Rattle.planfile.proofs.ReadLaws.{read_clear}
+use Rattle.planfile.proofs.ReadLaws.{read_clear, same_content}
 use Rattle.planfile.proofs.WriteLaws.{up_to_fits}
 use Rattle.planfile.proofs.LengthLaws.{file_most}
 use Rattle.planfile.proofs.OneContent.{clear_short}
@@ -60,20 +58,20 @@ sizes_low : (zs : List ℕ) (m : ℕ) → sum zs < m → Under m zs
 sizes_low zs m h = record { below = λ i. omega (arith, up_to_fits zs i) }
 
 pub read_written :
-    {f lo ln li lz : List ℕ} {olds news mode count rounds : ℕ} {o' n' i' z' file : List ℕ} {a : WriteReply} {f' : List ℕ}
-    → Reads f lo ln li lz (Content olds news mode count rounds) o' n' i' z'
-    → Clear (RouteFault (entries (front olds o')) (entries (front news n')))
-    → Clear (ScheduleFault (entries (front olds o')) (entries (front news n')) mode (entries (front count i')) (entries (front rounds z')))
+    {f lo ln li lz : List ℕ} {c : Content} {o' n' i' z' file : List ℕ} {a : Result ℕ Refusal} {f' : List ℕ}
+    → Reads f lo ln li lz (Ok c) o' n' i' z'
+    → Clear (RouteFault (entries (front c.olds o')) (entries (front c.news n')))
+    → Clear (ScheduleFault (entries (front c.olds o')) (entries (front c.news n')) c.mode (entries (front c.ids i')) (entries (front c.rounds z')))
     → 4092 ≤ length file
-    → Writes (front olds o') (front news n') mode (front count i') (front rounds z') file a f'
-    → (a ≡ Written (length f)) × (f' ≡ f ++ drop (length f) file)
-read_written {f} {lo} {ln} {li} {lz} {olds} {news} {mode} {count} {rounds} {o'} {n'} {i'} {z'} {file} {a} {f'} (content o n is zs k h e1 e2 e3 e4 d1 d2 d3 d4) p s room w =
+    → Writes (front c.olds o') (front c.news n') c.mode (front c.ids i') (front c.rounds z') file a f'
+    → (a ≡ Ok (length f)) × (f' ≡ f ++ drop (length f) file)
+read_written {f} {lo} {ln} {li} {lz} {c} {o'} {n'} {i'} {z'} {file} {a} {f'} (content o n is zs k h e1 e2 e3 e4 d1 d2 d3 d4) p s room w =
     go w
   where
     small : length is < 65536
-    small = omega (arith, ap length h.same, length_file o n mode is zs h.sums, clear_short k)
+    small = omega (arith, ap length h.same, length_file o n c.mode is zs h.sums, clear_short k)
 
-    same : f ≡ file_of (entries (front olds o')) (entries (front news n')) mode (entries (front count i')) (entries (front rounds z'))
+    same : f ≡ file_of (entries (front c.olds o')) (entries (front c.news n')) c.mode (entries (front c.ids i')) (entries (front c.rounds z'))
     same =
         rw (
           read_entries o lo e1 d1 (record { below = h.old_ids }),
@@ -83,37 +81,37 @@ read_written {f} {lo} {ln} {li} {lz} {olds} {news} {mode} {count} {rounds} {o'} 
         )
         h.same
 
-    passes : (q : Refusal) → ChangeFault (front olds o') (front news n') mode (front count i') (front rounds z') q → ⊥
-    passes q (half_ids c) = c (read_whole is li e3 d3)
-    passes q (half_sizes c) = c (read_whole zs lz e4 d4)
-    passes q (judged (half_old c)) = c (read_whole o lo e1 d1)
-    passes q (judged (half_new c)) = c (read_whole n ln e2 d2)
-    passes q (judged (pair c)) = p.clear q c
-    passes q (schedule c) = s.clear q c
+    passes : (q : Refusal) → ChangeFault (front c.olds o') (front c.news n') c.mode (front c.ids i') (front c.rounds z') q → ⊥
+    passes q (half_ids x) = x (read_whole is li e3 d3)
+    passes q (half_sizes x) = x (read_whole zs lz e4 d4)
+    passes q (judged (half_old x)) = x (read_whole o lo e1 d1)
+    passes q (judged (half_new x)) = x (read_whole n ln e2 d2)
+    passes q (judged (pair x)) = p.clear q x
+    passes q (schedule x) = s.clear q x
 
-    none : (q : Refusal) → WriteFault (front olds o') (front news n') mode (front count i') (front rounds z') file q → ⊥
-    none q (short_file c) = omega arith
-    none q (change c) = passes q c
+    none : (q : Refusal) → WriteFault (front c.olds o') (front c.news n') c.mode (front c.ids i') (front c.rounds z') file q → ⊥
+    none q (short_file x) = omega arith
+    none q (change x) = passes q x
 
     go :
-        {b : WriteReply} {g : List ℕ}
-        → Writes (front olds o') (front news n') mode (front count i') (front rounds z') file b g
-        → (b ≡ Written (length f)) × (g ≡ f ++ drop (length f) file)
+        {b : Result ℕ Refusal} {g : List ℕ}
+        → Writes (front c.olds o') (front c.news n') c.mode (front c.ids i') (front c.rounds z') file b g
+        → (b ≡ Ok (length f)) × (g ≡ f ++ drop (length f) file)
     go (not_written {r} x y) = absurd (none r x.applies)
-    go (written {f = x} c ex em es) =
+    go (written {f = x} _ ex em es) =
         let xf : x ≡ f = ex ∙ sym same in
         (cc, cc)
 
 pub written_read :
-    {old new : List ℕ} {mode : ℕ} {ids sizes file : List ℕ} {size : ℕ} {f' lo ln li lz : List ℕ} {a : ReadReply} {o' n' i' z' : List ℕ}
-    → Writes old new mode ids sizes file (Written size) f'
+    {old new : List ℕ} {mode : ℕ} {ids sizes file : List ℕ} {size : ℕ} {f' lo ln li lz : List ℕ} {a : Result Content Refusal} {o' n' i' z' : List ℕ}
+    → Writes old new mode ids sizes file (Ok size) f'
     → Under 256 old
     → Under 256 new
     → Under 256 ids
     → Under 256 sizes
     → Room lo ln li lz
     → Reads (take size f') lo ln li lz a o' n' i' z'
-    → (a ≡ Content (length old / 2) (length new / 2) mode (length ids / 2) (length sizes / 2)) × ReadBack old new ids sizes lo ln li lz o' n' i' z'
+    → (a ≡ Ok (record { olds = length old / 2; news = length new / 2; mode = mode; ids = length ids / 2; rounds = length sizes / 2 })) × ReadBack old new ids sizes lo ln li lz o' n' i' z'
 written_read {old} {new} {mode} {ids} {sizes} {file} {size} {f'} {lo} {ln} {li} {lz} {a} {o'} {n'} {i'} {z'} (written {f} k ef em es) uo un ui uz room r =
     go r
   where
@@ -150,11 +148,11 @@ written_read {old} {new} {mode} {ids} {sizes} {file} {size} {f'} {lo} {ln} {li} 
             omega (arith, holds_old holds long (rw d at x), sound.good.old.least, sound.good.old.most)
 
     go :
-        {b : ReadReply} {o1 n1 i1 z1 : List ℕ}
+        {b : Result Content Refusal} {o1 n1 i1 z1 : List ℕ}
         → Reads (take size f') lo ln li lz b o1 n1 i1 z1
-        → (b ≡ Content (length old / 2) (length new / 2) mode (length ids / 2) (length sizes / 2)) × ReadBack old new ids sizes lo ln li lz o1 n1 i1 z1
+        → (b ≡ Ok (record { olds = length old / 2; news = length new / 2; mode = mode; ids = length ids / 2; rounds = length sizes / 2 })) × ReadBack old new ids sizes lo ln li lz o1 n1 i1 z1
     go (not-read x y1 y2 y3 y4) = absurd (first_not_clear x (read_clear room short (holds_right holds long) sized))
-    go (content o n is zs c h e1 e2 e3 e4 d1 d2 d3 d4) =
+    go (content o n is zs {c = q} c h e1 e2 e3 e4 d1 d2 d3 d4) =
         let s = holds_one h holds long in
         let s1 = s.same_old in
         let s2 = s.same_new in
@@ -165,7 +163,7 @@ written_read {old} {new} {mode} {ids} {sizes} {file} {size} {f'} {lo} {ln} {li} 
         let l2 = length_entries new in
         let l3 = length_entries ids in
         let l4 = length_entries sizes in (
-          cc,
+          ap Ok (same_content (e1 ∙ ap length s1 ∙ l1) (e2 ∙ ap length s2 ∙ l2) s3 (e3 ∙ ap length s4 ∙ l3) (e4 ∙ ap length s5 ∙ l4)),
           record {
             old_back = d1 ∙ ap (λ (l : List ℕ). overlaid l lo) s1 ∙ overlaid_back old lo sound.whole_old uo;
             new_back = d2 ∙ ap (λ (l : List ℕ). overlaid l ln) s2 ∙ overlaid_back new ln sound.whole_new un;

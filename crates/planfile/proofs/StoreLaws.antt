@@ -1,23 +1,28 @@
 -- Laws on bytes stored in lent memory.
 --
 --   encode_one       == one entry as bytes
+--   are_bytes        == lent bytes are numbers under 256
 --   overlaid_none    == no entry in front: the bytes as they are
 --   length_overlaid  == lent memory keeps its length
 --   overlaid_bytes   == whole entries stored from the front are their entries in front
 --   overlaid_more    == bytes stored behind the entries in front are more entries in front
 --   overlaid_put     == so is an entry that is put behind them
 --   overlaid_back    == and those of whole entries are these
+use Rattle.std.proofs.Common.{Fits, w8}
 use Prim.Native.Nat.{ℕ, ◌+◌, ◌*◌, ◌≤◌}
 use mathlib.Core.Path.{◌≡◌, refl, sym, ap, ◌∙◌}
 use mathlib.Core.List.{List, [], ◌∷◌, ◌++◌}
 use native.Mathlib.Omega.{arith}
-use lib.ListN.{length, drop, length-append, length-drop}
+use lib.ListN.{length, get_or, drop, length-append, length-drop}
 use lib.Seq.{sets}
 use Rattle.house.specs.Numbers.{bytes, entries, encode, put_number, Whole}
 use Rattle.house.proofs.StoreLaws.{sets_append, sets_front}
 use Rattle.house.proofs.NumberLaws.{Under, length_encode, length_entries, encode_entries}
 use Rattle.plans.proofs.WriteLaws.{overlaid_more as overlaid-one}
 use Rattle.plans.specs.Replies.{overlaid}
+
+pub are_bytes : {b : List ℕ} → ((i : ℕ) → Fits w8 (get_or b i 0)) → Under 256 b
+are_bytes h = record { below = λ i. omega (arith, h i) }
 
 pub overlaid_none : (b : List ℕ) → b ≡ overlaid [] b
 unfolding overlaid encode

@@ -1,16 +1,17 @@
 -- Laws on writing: the parts of the writer, and the order of its refusals.
 --
---   record_stored    == a head of four bytes and then the body are a record
+--   record_stored    == the length, the kind and the body, one after the other, are a record
 --   up_to_fits       == the ids of the rounds up to one more are within the ids
 --   Putting file₀ at ids sizes next from t file == the first t rounds are stored, and the next one's ids begin at the byte `from`
 --   putting_within, putting_room == the next one's ids are within the ids, and it has room
 --   putting_none, putting_more, putting_end == before the first; one more; after the last
 --   old_room, new_room, mode_room, rounds_room == the records of a sound change have room, one after the other
---   mode_bytes       == the two bytes of a mode
 --   file_stored      == and stored one after the other they are the plan file
 --   write_unfit, write_judged, judged_writable, write_stored == the writer's reply from the reply to its parts
 --   putting_length   == lent memory keeps its length
-use Prim.Native.Nat.{ℕ, zero, suc, ◌+◌, ◌*◌, ◌-◌, ◌/◌, ◌%◌, ◌<◌, ◌≤◌}
+use Rattle.std.specs.Prelude.{Ok, Err}
+use Rattle.std.specs.Int.{w16, to_le_bytes}
+use Prim.Native.Nat.{ℕ, zero, suc, ◌+◌, ◌*◌, ◌-◌, ◌<◌, ◌≤◌}
 use mathlib.Core.Path.{◌≡◌, refl, sym, ap, ◌∙◌}
 use mathlib.Core.List.{List, [], ◌∷◌, ◌++◌}
 use native.Mathlib.Numerals.{add-one}
@@ -18,49 +19,57 @@ use native.Mathlib.Omega.{arith}
 use lib.ListN.{length, get_or, take, drop, length-append, length-drop}
 use lib.Seq.{sets, length-sets, length-take-le, take-suc, take-add, take_all, drop-nil}
 use Rattle.house.specs.Numbers.{bytes, entries, encode}
-use Rattle.house.proofs.NumberLaws.{Under, length_entries, length_encode, encode_entries}
+use Rattle.house.proofs.NumberLaws.{Under, length_bytes, length_entries, length_encode, encode_entries}
 use Rattle.house.specs.Refusals.{Before}
 use Rattle.house.specs.declared.Refusal.{Refusal}
 use Rattle.house.specs.declared.Refusal.TheVariants.{Unfit}
-use Rattle.routes.specs.declared.pair.Judged.TheVariants.{Sound, Faulty}
 use Rattle.rounds.specs.Schedule.{sum}
 use Rattle.rounds.specs.Replies.{JudgesChange, sound as judged_sound, faulty}
 use Rattle.rounds.proofs.ScheduleLaws.{up_to, up_to_none, up_to_suc, up_to_most, up_to_all, SoundChange, clear_change}
 use Rattle.planfile.specs.File.{record_of, round_records, file_of}
 use Rattle.planfile.specs.Parts.{RecordRoom, PutRecord, RoundsRoom, PutRounds, Writable, PutFile}
 use Rattle.planfile.specs.Replies.{WriteFault, short_file, change, Writes, refused, written}
-use Rattle.planfile.specs.declared.write.WriteReply.TheVariants.{Written, NotWritten}
 use Rattle.house.proofs.RefusalLaws.{unfit_first}
 use Rattle.house.proofs.StoreLaws.{sets_append, sets_front}
 use Rattle.planfile.proofs.RecordLaws.{record_head}
+use Rattle.planfile.proofs.StoreLaws.{encode_one}
 use Rattle.planfile.proofs.FileLaws.{rounds_snoc, length_rounds, length_file, file_is}
 use Rattle.planfile.proofs.LengthLaws.{file_most}
 
 -- ---- a record
 
-head_is : (k : ℕ) (b : List ℕ) → k < 256 → length b < 65536 → record_of k b ≡ (length b % 256 ∷ length b / 256 ∷ k ∷ 0 ∷ []) ++ b
-unfolding record_of bytes
-head_is k b h l =
-    let x : length b / 256 % 256 ≡ length b / 256 = omega arith in
-    let y : k % 256 ≡ k = omega arith in
-    let z : k / 256 % 256 ≡ 0 = omega arith in
-    rw (x, y, z)
+-- a number's two bytes
+number_bytes : (n : ℕ) → to_le_bytes w16 n ≡ bytes 2 n
+unfolding bytes
+number_bytes n = refl
 
 pub record_stored :
-    {file f f' : List ℕ} {at k : ℕ} {b : List ℕ}
-    → k < 256
-    → length b < 65536
-    → f ≡ sets file at (length b % 256 ∷ length b / 256 ∷ k ∷ 0 ∷ [])
-    → f' ≡ sets f (at + 4) b
-    → PutRecord file at k b (at + (length b + 4)) f'
-record_stored {file} {f} {f'} {at} {k} {b} h l e d =
+    {file f g f' : List ℕ} {at k n : ℕ} {b head kind : List ℕ}
+    → n ≡ length b
+    → head ≡ to_le_bytes w16 n
+    → kind ≡ to_le_bytes w16 k
+    → f ≡ sets file at head
+    → g ≡ sets f (at + 2) kind
+    → f' ≡ sets g (at + 4) b
+    → PutRecord file at k b (at + 4 + length b) f'
+unfolding record_of
+record_stored {file} {f} {g} {f'} {at} {k} {n} {b} {head} {kind} en eh ek e d h =
+    let l : head ≡ bytes 2 (length b) = eh ∙ ap (to_le_bytes w16) en ∙ number_bytes (length b) in
+    let m : kind ≡ bytes 2 k = ek ∙ number_bytes k in
+    let x : at + 2 ≡ at + length head = omega (arith, ap length l, length_bytes 2 (length b)) in
+    let y : at + 4 ≡ at + 2 + length kind = omega (arith, ap length m, length_bytes 2 k) in
     record {
       stored =
-          d
-          ∙ ap (λ (x : List ℕ). sets x (at + 4) b) e
-          ∙ sym (sets_append (length b % 256 ∷ length b / 256 ∷ k ∷ 0 ∷ []) b file at)
-          ∙ ap (sets file at) (sym (head_is k b h l));
-      next = omega arith;
+          h
+          ∙ ap (λ (p : ℕ). sets g p b) y
+          ∙ ap (λ (z : List ℕ). sets z (at + 2 + length kind) b) d
+          ∙ sym (sets_append kind b f (at + 2))
+          ∙ ap (λ (p : ℕ). sets f p (kind ++ b)) x
+          ∙ ap (λ (z : List ℕ). sets z (at + length head) (kind ++ b)) e
+          ∙ sym (sets_append head (kind ++ b) file at)
+          ∙ ap (λ (z : List ℕ). sets file at (z ++ (kind ++ b))) l
+          ∙ ap (λ (z : List ℕ). sets file at (bytes 2 (length b) ++ (z ++ b))) m;
+      next = refl;
     }
 
 -- ---- rounds
@@ -257,94 +266,93 @@ module _ {old new : List ℕ} {mode : ℕ} {ids sizes file : List ℕ} (w : Writ
       new_kept : length g ≡ length file
       new_kept = ap length y.stored ∙ length-sets f p (record_of 2 new) ∙ old_kept
 
-      pub mode_room : (b : List ℕ) → length b ≡ 2 → RecordRoom g q b
-      mode_room b e = record { room = omega (arith, total, w.room, x.next, y.next, new_kept); short = omega arith }
+      module _ {b : List ℕ} (eb : b ≡ to_le_bytes w16 mode) where
+        mode_is : b ≡ encode 2 (mode ∷ [])
+        mode_is = eb ∙ number_bytes mode ∙ sym (encode_one mode)
 
-      module _ {b : List ℕ} {r : ℕ} {h : List ℕ} (eb : b ≡ encode 2 (mode ∷ [])) (z : PutRecord g q 3 b r h) where
         mode_size : length b ≡ 2
-        mode_size = ap length eb ∙ length_encode 2 (mode ∷ [])
+        mode_size = ap length mode_is ∙ length_encode 2 (mode ∷ [])
 
-        rounds_at : r ≡ 14 + length old + length new
-        rounds_at = omega (arith, x.next, y.next, z.next, mode_size)
+        pub mode_room : RecordRoom g q b
+        mode_room = record { room = omega (arith, total, w.room, x.next, y.next, new_kept, mode_size); short = omega (arith, mode_size) }
 
-        pub rounds_room : RoundsRoom h r ids sizes
-        rounds_room =
-            record {
-              whole = sound.whole_ids;
-              sums = sound.schedule.sums;
-              room =
-                  omega (
-                    arith,
-                    total,
-                    w.room,
-                    rounds_at,
-                    length_rounds (entries ids) (entries sizes) sound.schedule.sums,
-                    ap length z.stored ∙ length-sets g q (record_of 3 b) ∙ new_kept,
-                  );
-              short = omega (arith, total, length_entries ids, sound.whole_ids.even);
-            }
+        module _ {r : ℕ} {h : List ℕ} (z : PutRecord g q 3 b r h) where
+          rounds_at : r ≡ 14 + length old + length new
+          rounds_at = omega (arith, x.next, y.next, z.next, mode_size)
 
-        pub file_stored :
-            {n : ℕ} {f' : List ℕ}
-            → Under 256 old
-            → Under 256 new
-            → PutRounds h r ids sizes n f'
-            → PutFile old new mode ids sizes file n f'
-        file_stored {n} {f'} uo un k =
-            let o = record_of 1 old in
-            let m = record_of 2 new in
-            let d = record_of 3 b in
-            let t = round_records (entries ids) (entries sizes) in
-            let whole : file_of (entries old) (entries new) mode (entries ids) (entries sizes) ≡ o ++ (m ++ (d ++ t)) =
-            file_is (entries old) (entries new) mode (entries ids) (entries sizes)
-            ∙ rw (sym eb, encode_entries old sound.whole_old uo, encode_entries new sound.whole_new un) in
-            let lo = record_head 1 old in
-            let lm = record_head 2 new in
-            let ld = record_head 3 b in
-            let a1 = length-append o (m ++ (d ++ t)) in
-            let a2 = length-append m (d ++ t) in
-            let a3 = length-append d t in
-            let size : n ≡ length (o ++ (m ++ (d ++ t))) = omega (arith, x.next, y.next, z.next, k.next) in
-            let ep : p ≡ 0 + length o = omega (arith, x.next) in
-            let eq : q ≡ p + length m = omega (arith, y.next) in
-            let er : r ≡ q + length d = omega (arith, z.next) in
-            let all : f' ≡ sets file 0 (o ++ (m ++ (d ++ t))) =
-            k.stored
-            ∙ ap (λ (l : List ℕ). sets l r t) z.stored
-            ∙ ap (λ (i : ℕ). sets (sets g q d) i t) er
-            ∙ sym (sets_append d t g q)
-            ∙ ap (λ (l : List ℕ). sets l q (d ++ t)) y.stored
-            ∙ ap (λ (i : ℕ). sets (sets f p m) i (d ++ t)) eq
-            ∙ sym (sets_append m (d ++ t) f p)
-            ∙ ap (λ (l : List ℕ). sets l p (m ++ (d ++ t))) x.stored
-            ∙ ap (λ (i : ℕ). sets (sets file 0 o) i (m ++ (d ++ t))) ep
-            ∙ sym (sets_append o (m ++ (d ++ t)) file 0) in
-            record {
-              stored =
-                  all
-                  ∙ sets_front file (o ++ (m ++ (d ++ t)))
-                  (omega (arith, total, w.room, size, rounds_at, k.next, length_rounds (entries ids) (entries sizes) sound.schedule.sums))
-                  ∙ ap (λ (i : ℕ). (o ++ (m ++ (d ++ t))) ++ drop i file) (sym size)
-                  ∙ ap (λ (l : List ℕ). l ++ drop n file) (sym whole);
-              size = size ∙ ap length (sym whole);
-            }
+          pub rounds_room : RoundsRoom h r ids sizes
+          rounds_room =
+              record {
+                whole = sound.whole_ids;
+                sums = sound.schedule.sums;
+                room =
+                    omega (
+                      arith,
+                      total,
+                      w.room,
+                      rounds_at,
+                      length_rounds (entries ids) (entries sizes) sound.schedule.sums,
+                      ap length z.stored ∙ length-sets g q (record_of 3 b) ∙ new_kept,
+                    );
+                short = omega (arith, total, length_entries ids, sound.whole_ids.even);
+              }
 
--- the two bytes of a mode
-pub mode_bytes : (m : ℕ) → m < 65536 → (m % 256 ∷ m / 256 ∷ []) ≡ encode 2 (m ∷ [])
-unfolding encode
-mode_bytes m h = let e : m / 256 % 256 ≡ m / 256 = omega arith in rw e
+          pub file_stored :
+              {n : ℕ} {f' : List ℕ}
+              → Under 256 old
+              → Under 256 new
+              → PutRounds h r ids sizes n f'
+              → PutFile old new mode ids sizes file n f'
+          file_stored {n} {f'} uo un k =
+              let o = record_of 1 old in
+              let m = record_of 2 new in
+              let d = record_of 3 b in
+              let t = round_records (entries ids) (entries sizes) in
+              let whole : file_of (entries old) (entries new) mode (entries ids) (entries sizes) ≡ o ++ (m ++ (d ++ t)) =
+              file_is (entries old) (entries new) mode (entries ids) (entries sizes)
+              ∙ rw (sym mode_is, encode_entries old sound.whole_old uo, encode_entries new sound.whole_new un) in
+              let lo = record_head 1 old in
+              let lm = record_head 2 new in
+              let ld = record_head 3 b in
+              let a1 = length-append o (m ++ (d ++ t)) in
+              let a2 = length-append m (d ++ t) in
+              let a3 = length-append d t in
+              let size : n ≡ length (o ++ (m ++ (d ++ t))) = omega (arith, x.next, y.next, z.next, k.next) in
+              let ep : p ≡ 0 + length o = omega (arith, x.next) in
+              let eq : q ≡ p + length m = omega (arith, y.next) in
+              let er : r ≡ q + length d = omega (arith, z.next) in
+              let all : f' ≡ sets file 0 (o ++ (m ++ (d ++ t))) =
+              k.stored
+              ∙ ap (λ (l : List ℕ). sets l r t) z.stored
+              ∙ ap (λ (i : ℕ). sets (sets g q d) i t) er
+              ∙ sym (sets_append d t g q)
+              ∙ ap (λ (l : List ℕ). sets l q (d ++ t)) y.stored
+              ∙ ap (λ (i : ℕ). sets (sets f p m) i (d ++ t)) eq
+              ∙ sym (sets_append m (d ++ t) f p)
+              ∙ ap (λ (l : List ℕ). sets l p (m ++ (d ++ t))) x.stored
+              ∙ ap (λ (i : ℕ). sets (sets file 0 o) i (m ++ (d ++ t))) ep
+              ∙ sym (sets_append o (m ++ (d ++ t)) file 0) in
+              record {
+                stored =
+                    all
+                    ∙ sets_front file (o ++ (m ++ (d ++ t)))
+                    (omega (arith, total, w.room, size, rounds_at, k.next, length_rounds (entries ids) (entries sizes) sound.schedule.sums))
+                    ∙ ap (λ (i : ℕ). (o ++ (m ++ (d ++ t))) ++ drop i file) (sym size)
+                    ∙ ap (λ (l : List ℕ). l ++ drop n file) (sym whole);
+                size = size ∙ ap length (sym whole);
+              }
 
 -- ---- the order of the refusals
 
 module _ {old new : List ℕ} {mode : ℕ} {ids sizes file : List ℕ} where
-  pub write_unfit : length file < 4092 → Writes old new mode ids sizes file (NotWritten Unfit) file
+  pub write_unfit : length file < 4092 → Writes old new mode ids sizes file (Err Unfit) file
   write_unfit h = refused (unfit_first (short_file h)) refl
 
   pub write_judged :
       {r : Refusal}
       → 4092 ≤ length file
-      → JudgesChange old new mode ids sizes (Faulty r)
-      → Writes old new mode ids sizes file (NotWritten r) file
+      → JudgesChange old new mode ids sizes (Err r)
+      → Writes old new mode ids sizes file (Err r) file
   write_judged {r} h (faulty a) = refused (record { applies = change a.applies; lowest = go }) refl
     where
       go : (q : Refusal) → WriteFault old new mode ids sizes file q → Before q r → ⊥
@@ -352,14 +360,14 @@ module _ {old new : List ℕ} {mode : ℕ} {ids sizes file : List ℕ} where
       go q (change c) b = a.lowest q c b
 
   pub judged_writable :
-      4092 ≤ length file → JudgesChange old new mode ids sizes Sound → Writable old new mode ids sizes file
+      4092 ≤ length file → JudgesChange old new mode ids sizes (Ok tt) → Writable old new mode ids sizes file
   judged_writable h (judged_sound k) = record { sound = k; room = h }
 
   pub write_stored :
       {n : ℕ} {f' : List ℕ}
       → Writable old new mode ids sizes file
       → PutFile old new mode ids sizes file n f'
-      → Writes old new mode ids sizes file (Written n) f'
+      → Writes old new mode ids sizes file (Ok n) f'
   write_stored w p = written (record { clear = go }) refl p.size p.stored
     where
       go : (q : Refusal) → WriteFault old new mode ids sizes file q → ⊥

@@ -2,6 +2,7 @@
 --
 --   AllRight f        == no record of the file f is wrong
 --   Scans f a         == a says which record is wrong, or how long the bodies of the two routes are
+--   LengthIs w n r    == r refuses the route w exactly where its n ids are not 2 to 256
 --   Room old new ids sizes == the lent slices are long enough
 --   Fine f a b old new ids sizes == no record of f is wrong, a and b are the lengths of the bodies of the two routes, the file is
 --                        not too long, and the lent slices have room
@@ -16,24 +17,30 @@
 --   PutRounds .. r f' == the records of rounds are stored there
 --   Writable old new mode ids sizes file == no refusal applies to the change, and the lent slice is long enough
 --   PutFile .. r f'   == the plan file is stored at the front: r is its length
-use Rattle.std.specs.Prelude.{ℕ, ◌+◌, ◌<◌, ◌≤◌, ◌≡◌, List, ◌++◌, length, get_or, drop}
+use Rattle.std.specs.Prelude.{ℕ, ◌+◌, ◌<◌, ◌≤◌, ◌≡◌, List, ◌++◌, length, get_or, drop, Result, Ok, Err}
 use Rattle.std.proofs.lemmas.List.Edits.{sets}
+use Rattle.house.specs.declared.Refusal.{Refusal}
+use Rattle.house.specs.declared.Refusal.TheVariants.{RecordWrong, RouteLength}
 use Rattle.house.specs.Numbers.{entries, Whole}
 use Rattle.house.specs.Refusals.{Clear}
 use Rattle.plans.specs.Replies.{overlaid}
 use Rattle.rounds.specs.Replies.{ChangeFault}
 use Rattle.rounds.specs.Schedule.{sum}
 use Rattle.planfile.specs.File.{record_of, round_records, file_of, size_at, WrongAt, Expects, Ended}
-use Rattle.planfile.specs.declared.read.Scan.{Scan}
-use Rattle.planfile.specs.declared.read.Scan.TheVariants.{Bodies, WrongFrom}
+use Rattle.planfile.specs.declared.read.Bodies.{Bodies}
 use Rattle.planfile.specs.declared.read.Counts.{Counts}
 
 pub record AllRight (f : List ℕ) : Type 0 where
   pub none_wrong : {p k : ℕ} → Expects f p k → (Ended f p k → ⊥) → WrongAt f k p → ⊥
 
-pub data Scans (f : List ℕ) : Scan → Type 0 where
-  all_right : {a b : ℕ} → AllRight f → a ≡ size_at f 0 → b ≡ size_at f (4 + a) → Scans f (Bodies a b)
-  one_wrong : {p k q : ℕ} → Expects f p k → (Ended f p k → ⊥) → WrongAt f k p → q ≡ p → Scans f (WrongFrom q)
+pub data Scans (f : List ℕ) : Result Bodies Refusal → Type 0 where
+  all_right : {b : Bodies} → AllRight f → b.old ≡ size_at f 0 → b.new ≡ size_at f (4 + b.old) → Scans f (Ok b)
+  one_wrong : {p k q : ℕ} → Expects f p k → (Ended f p k → ⊥) → WrongAt f k p → q ≡ p → Scans f (Err (RecordWrong q))
+
+pub data LengthIs (w n : ℕ) : Result (Unit {0}) Refusal → Type 0 where
+  length_right : 2 ≤ n → n ≤ 256 → LengthIs w n (Ok tt)
+  length_few : n < 2 → LengthIs w n (Err (RouteLength w))
+  length_many : 256 < n → LengthIs w n (Err (RouteLength w))
 
 pub record Room (old new ids sizes : List ℕ) : Type 0 where
   pub for_old : 512 ≤ length old

@@ -1,57 +1,67 @@
 // Reading a plan file. The records are gone through once, writing nothing, and copied only where nothing is refused.
-ghost use Rattle.planfile.specs.Parts.{Scans, Fine, Ready, Copied};
+ghost use Rattle.planfile.specs.Parts.{Scans, LengthIs, Fine, Ready, Copied};
 ghost use Rattle.planfile.specs.Replies.{Reads};
 
-use crate::record;
-use crate::record::RecordReply;
-use house::{Refusal, entry, put_entry, store, wide};
+use crate::record::{MODE, NEW_ROUTE, OLD_ROUTE, ROUND, record_at};
+use house::{Refusal, entry, put_entry, store};
 
-// What the reader answers.
-#[derive(Drop)]
-pub enum ReadReply {
-    // entries of the old route, of the new route, the mode, schedule ids, rounds
-    Content(usize, usize, u16, usize, usize),
-    NotRead(Refusal),
+// What a plan file holds: how many entries the old and the new route have, the mode, and how many schedule ids and rounds there are.
+#[derive(Clone, Copy, Debug, PartialEq, Eq)]
+pub struct Content {
+    pub olds: usize,
+    pub news: usize,
+    pub mode: u16,
+    pub ids: usize,
+    pub rounds: usize,
 }
 
-// What going through the records finds.
-#[derive(Drop)]
-enum Scan {
-    // no record is wrong: the lengths of the bodies of the old and the new route
-    Bodies(usize, usize),
-    // the offset of the wrong record
-    WrongFrom(usize),
+// The lengths of the bodies of the old and the new route.
+#[derive(Clone, Copy, Debug, PartialEq, Eq)]
+struct Bodies {
+    old: usize,
+    new: usize,
 }
 
 // How many schedule ids, and how many rounds.
-#[derive(Drop)]
+#[derive(Clone, Copy, Debug, PartialEq, Eq)]
 struct Counts {
     ids: usize,
     rounds: usize,
 }
 
 // Goes through the records in their order, to the first that is wrong or to the end.
-fn go_through(file: &[u8]) -> Scan
+fn go_through(file: &[u8]) -> Result<Bodies, Refusal>
     ensures { Scans file.now result }
 {
-    let RecordReply::Body(_, old_size, second) = record::record_at(file, 0, 1) else {
-        return Scan::WrongFrom(0);
+    let Some(old) = record_at(file, 0, OLD_ROUTE)? else {
+        return Err(Refusal::RecordWrong(0));
     };
-    let RecordReply::Body(_, new_size, third) = record::record_at(file, second, 2) else {
-        return Scan::WrongFrom(second);
+    let Some(new) = record_at(file, old.next, NEW_ROUTE)? else {
+        return Err(Refusal::RecordWrong(old.next));
     };
-    let RecordReply::Body(_, _, rounds) = record::record_at(file, third, 3) else {
-        return Scan::WrongFrom(third);
+    let Some(mode) = record_at(file, new.next, MODE)? else {
+        return Err(Refusal::RecordWrong(new.next));
     };
-    let n = file.len();
-    let mut at = rounds;
-    while at < n {
-        let RecordReply::Body(_, _, next) = record::record_at(file, at, 4) else {
-            return Scan::WrongFrom(at);
+    let mut at = mode.next;
+    loop {
+        let Some(round) = record_at(file, at, ROUND)? else {
+            return Ok(Bodies {
+                old: old.size,
+                new: new.size,
+            });
         };
-        at = next;
+        at = round.next;
     }
-    Scan::Bodies(old_size, new_size)
+}
+
+// Judges how many ids a route has: 2 to 256. `which` is 1 for the old route and 2 for the new.
+fn judge_length(which: usize, ids: usize) -> Result<(), Refusal>
+    ensures { LengthIs which ids result }
+{
+    if ids < 2 || 256 < ids {
+        return Err(Refusal::RouteLength(which));
+    }
+    Ok(())
 }
 
 // Copies the rounds of a file from the offset `from` on: their ids behind each other, and the size of each.
@@ -59,58 +69,53 @@ fn copy_rounds(file: &[u8], from: usize, ids: &mut [u8], sizes: &mut [u8]) -> Co
     requires { Ready file.now from ids.old sizes.old }
     ensures { Copied file.now from ids.old sizes.old result ids.new sizes.new }
 {
-    let n = file.len();
     let mut at = from;
-    let mut count = 0;
-    let mut rounds = 0;
-    while at < n {
+    let mut copied = Counts { ids: 0, rounds: 0 };
+    while at < file.len() {
         let size = entry(&file[at..], 0);
         let start = at + 4;
-        let end = start + wide(size);
-        store(ids, 2 * count, &file[start..end]);
-        put_entry(sizes, rounds, size / 2);
-        count += wide(size) / 2;
-        rounds += 1;
+        let end = start + usize::from(size);
+        store(ids, 2 * copied.ids, &file[start..end]);
+        put_entry(sizes, copied.rounds, size / 2);
+        copied.ids += usize::from(size / 2);
+        copied.rounds += 1;
         at = end;
     }
-    Counts { ids: count, rounds }
+    copied
 }
 
 // Reads a file that has no wrong record: the lengths of the routes are judged, and then all is copied.
 fn copy_all(
     file: &[u8],
-    a: usize,
-    b: usize,
+    bodies: Bodies,
     old: &mut [u8],
     new: &mut [u8],
     ids: &mut [u8],
     sizes: &mut [u8],
-) -> ReadReply
-    requires { Fine file.now a b old.old new.old ids.old sizes.old }
+) -> Result<Content, Refusal>
+    requires { Fine file.now bodies.old bodies.new old.old new.old ids.old sizes.old }
     ensures { Reads file.now old.old new.old ids.old sizes.old result old.new new.new ids.new sizes.new }
 {
-    if a / 2 < 2 {
-        return ReadReply::NotRead(Refusal::RouteLength(1));
-    }
-    if 256 < a / 2 {
-        return ReadReply::NotRead(Refusal::RouteLength(1));
-    }
-    if b / 2 < 2 {
-        return ReadReply::NotRead(Refusal::RouteLength(2));
-    }
-    if 256 < b / 2 {
-        return ReadReply::NotRead(Refusal::RouteLength(2));
-    }
+    let olds = bodies.old / 2;
+    let news = bodies.new / 2;
+    judge_length(1, olds)?;
+    judge_length(2, news)?;
     let old_start = 4;
-    let old_end = old_start + a;
+    let old_end = old_start + bodies.old;
     let new_start = old_end + 4;
-    let new_end = new_start + b;
+    let new_end = new_start + bodies.new;
     let mode_start = new_end + 4;
     store(old, 0, &file[old_start..old_end]);
     store(new, 0, &file[new_start..new_end]);
     let mode = entry(&file[mode_start..], 0);
-    let c = copy_rounds(file, mode_start + 2, ids, sizes);
-    ReadReply::Content(a / 2, b / 2, mode, c.ids, c.rounds)
+    let copied = copy_rounds(file, mode_start + 2, ids, sizes);
+    Ok(Content {
+        olds,
+        news,
+        mode,
+        ids: copied.ids,
+        rounds: copied.rounds,
+    })
 }
 
 // Reads a plan file into lent memory: the routes, the schedule ids and the sizes of the rounds. Refusals 1 to 4, each over the
@@ -121,26 +126,15 @@ pub fn read(
     new: &mut [u8],
     ids: &mut [u8],
     sizes: &mut [u8],
-) -> ReadReply
+) -> Result<Content, Refusal>
     ensures { Reads file.now old.old new.old ids.old sizes.old result old.new new.new ids.new sizes.new }
 {
-    if old.len() < 512 {
-        return ReadReply::NotRead(Refusal::Unfit);
-    }
-    if new.len() < 512 {
-        return ReadReply::NotRead(Refusal::Unfit);
-    }
-    if ids.len() < 4096 {
-        return ReadReply::NotRead(Refusal::Unfit);
-    }
-    if sizes.len() < 2048 {
-        return ReadReply::NotRead(Refusal::Unfit);
+    if old.len() < 512 || new.len() < 512 || ids.len() < 4096 || sizes.len() < 2048 {
+        return Err(Refusal::Unfit);
     }
     if 4092 < file.len() {
-        return ReadReply::NotRead(Refusal::FileLong);
+        return Err(Refusal::FileLong);
     }
-    match go_through(file) {
-        Scan::WrongFrom(p) => ReadReply::NotRead(Refusal::RecordWrong(p)),
-        Scan::Bodies(a, b) => copy_all(file, a, b, old, new, ids, sizes),
-    }
+    let bodies = go_through(file)?;
+    copy_all(file, bodies, old, new, ids, sizes)
 }

@@ -2,52 +2,50 @@
 // body.
 ghost use Rattle.planfile.specs.Replies.{RecordIs};
 
-use house::{entry, wide};
+use house::{Refusal, entry};
 
-// What stands at an offset of a file.
-#[derive(Drop)]
-pub enum RecordReply {
-    // a record: where its body starts, the body's length, and the next record's offset
-    Body(usize, usize, usize),
-    // a wrong record, at its offset
-    Wrong(usize),
-    // the end of the file, where it may end
-    End,
+// The kinds of records.
+// Kept: numbers, and no enum: `record_at` promises its answer (`RecordIs`) for every number as the kind.
+pub const OLD_ROUTE: u16 = 1;
+
+pub const NEW_ROUTE: u16 = 2;
+
+pub const MODE: u16 = 3;
+
+pub const ROUND: u16 = 4;
+
+// A record in a file: where its body starts, the body's length, and the next record's offset.
+#[derive(Clone, Copy, Debug, PartialEq, Eq)]
+pub struct Record {
+    pub start: usize,
+    pub size: usize,
+    pub next: usize,
 }
 
 // What stands at `at`, where a record of the kind `kind` is expected: the end is past all bytes where a round may follow; else
 // each test is one way for a record to be wrong. Nothing is added to `at` before it is known to be within the file.
-pub fn record_at(file: &[u8], at: usize, kind: u16) -> RecordReply
+pub fn record_at(file: &[u8], at: usize, kind: u16) -> Result<Option<Record>, Refusal>
     ensures { RecordIs file.now at kind result }
 {
     let n = file.len();
-    if kind == 4 {
-        if at == n {
-            return RecordReply::End;
-        }
+    if kind == ROUND && at == n {
+        return Ok(None);
     }
-    if n < 4 {
-        return RecordReply::Wrong(at);
-    }
-    if n - 4 < at {
-        return RecordReply::Wrong(at);
+    if n < 4 || n - 4 < at {
+        return Err(Refusal::RecordWrong(at));
     }
     let head = &file[at..];
-    let size = wide(entry(head, 0));
-    if size % 2 != 0 {
-        return RecordReply::Wrong(at);
+    let size = usize::from(entry(head, 0));
+    if size % 2 != 0 || n < at + size + 4 {
+        return Err(Refusal::RecordWrong(at));
     }
-    if n < at + size + 4 {
-        return RecordReply::Wrong(at);
-    }
-    if entry(head, 1) != kind {
-        return RecordReply::Wrong(at);
-    }
-    if kind == 3 {
-        if size != 2 {
-            return RecordReply::Wrong(at);
-        }
+    if entry(head, 1) != kind || (kind == MODE && size != 2) {
+        return Err(Refusal::RecordWrong(at));
     }
     let start = at + 4;
-    RecordReply::Body(start, size, start + size)
+    Ok(Some(Record {
+        start,
+        size,
+        next: start + size,
+    }))
 }

@@ -2,12 +2,6 @@
 // line.
 #![tactic(auto)]
 
-use std::io::Write;
-
 fn main(rt: HostRuntime) {
-    let mut file = [0u8; 4093];
-    let (size, _) = streams::read_full(&mut rt.stdin(), &mut file);
-    let mut out = [0u8; 4096];
-    let n = desk::planner(&file[..size], &mut out);
-    let _ = rt.stdout().write_all(&out[..n]);
+    let _ = streams::pipe(&mut rt.stdin(), &mut rt.stdout(), desk::planner);
 }

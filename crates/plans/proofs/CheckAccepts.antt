@@ -11,6 +11,9 @@
 --   plan_sound       == the plan's bytes are a sound change
 --   plan_accepted    == a yes with the planner's two numbers, and nothing written, is a reply of the check to the plan's bytes
 --   check_accepts    == each reply of the check to them is this one
+use Rattle.std.specs.Prelude.{Result, Ok}
+use Rattle.rounds.specs.declared.check.Accepted.{Accepted}
+use Rattle.plans.specs.declared.Given.{Given}
 use Prim.Native.Nat.{ℕ, zero, suc, ◌+◌, ◌*◌, ◌<◌, ◌≤◌}
 use mathlib.Core.Path.{◌≡◌, refl, sym, ap, ◌∙◌}
 use mathlib.Core.Bool.{true, false}
@@ -31,13 +34,10 @@ use Rattle.routes.specs.Replies.{JudgeFault}
 use Rattle.routes.proofs.RuleLaws.{tally_cong, tally_most}
 use Rattle.routes.proofs.PairLaws.{clear_whole, clear_good}
 use Rattle.rounds.specs.Replies.{CheckFault, short_set, change, Checks, passes}
-use Rattle.rounds.specs.declared.check.Checked.{Checked}
-use Rattle.rounds.specs.declared.check.Checked.TheVariants.{Accepted}
 use Rattle.rounds.proofs.ScheduleLaws.{SoundChange, change_clear}
 use Rattle.rounds.proofs.OneReply.{checks_one}
 use Rattle.plans.specs.Plan.{nothing, together, rising, PlanRounds, ids_of, sizes_of}
 use Rattle.plans.specs.Replies.{PlanFault, judged, mode_over, overlaid, Plans, given}
-use Rattle.plans.specs.declared.plan.Planned.TheVariants.{Given}
 use Rattle.plans.proofs.IdLists.{by_bool}
 use Rattle.plans.proofs.RisingIds.{rising_member, length_rising, none_rising}
 use Rattle.plans.proofs.PlanSchedule.{all, Disjoint, length_sizes}
@@ -136,7 +136,7 @@ module _
     encoded_accepted :
         (set : List ℕ)
         → 64 ≤ length set
-        → Checks old new mode (encode 2 (ids_of Rs)) (encode 2 (sizes_of Rs)) set (Accepted (length Rs) (length (ids_of Rs))) set
+        → Checks old new mode (encode 2 (ids_of Rs)) (encode 2 (sizes_of Rs)) set (Ok (record { rounds = length Rs; dues = length (ids_of Rs) })) set
     encoded_accepted set h =
         passes (record { clear = none }) (rw (read_ids, read_sizes) (plan_passes_always good p))
         (sym (ap length read_sizes ∙ length_sizes Rs)) (plan_dues good p) refl
@@ -146,11 +146,11 @@ module _
         none q (change f) = (change_clear plan_sound).clear q f
 
 pub plan_accepted :
-    {old new : List ℕ} {mode : ℕ} {ids sizes ids' sizes' : List ℕ} {rounds count : ℕ}
-    → Plans old new mode ids sizes (Given rounds count) ids' sizes'
+    {old new : List ℕ} {mode : ℕ} {ids sizes ids' sizes' : List ℕ} {g : Given}
+    → Plans old new mode ids sizes (Ok g) ids' sizes'
     → (set : List ℕ)
     → 64 ≤ length set
-    → Checks old new mode (take (2 * count) ids') (take (2 * rounds) sizes') set (Accepted rounds count) set
+    → Checks old new mode (take (2 * g.count) ids') (take (2 * g.rounds) sizes') set (Ok (record { rounds = g.rounds; dues = g.count })) set
 plan_accepted {ids = ids} {sizes} (given {Rs = Rs} c p r k i z) set h =
     rw (r, k, i, z, front_overlaid (ids_of Rs) ids, sizes_front) (encoded_accepted c p set h)
   where
@@ -158,11 +158,11 @@ plan_accepted {ids = ids} {sizes} (given {Rs = Rs} c p r k i z) set h =
     sizes_front = rw (length_sizes Rs) at (front_overlaid (sizes_of Rs) sizes)
 
 pub check_accepts :
-    {old new : List ℕ} {mode : ℕ} {ids sizes ids' sizes' : List ℕ} {rounds count : ℕ}
-    → Plans old new mode ids sizes (Given rounds count) ids' sizes'
+    {old new : List ℕ} {mode : ℕ} {ids sizes ids' sizes' : List ℕ} {g : Given}
+    → Plans old new mode ids sizes (Ok g) ids' sizes'
     → (set : List ℕ)
     → 64 ≤ length set
-    → {a : Checked} {after : List ℕ}
-    → Checks old new mode (take (2 * count) ids') (take (2 * rounds) sizes') set a after
-    → (a ≡ Accepted rounds count) × (after ≡ set)
+    → {a : Result Accepted Refusal} {after : List ℕ}
+    → Checks old new mode (take (2 * g.count) ids') (take (2 * g.rounds) sizes') set a after
+    → (a ≡ Ok (record { rounds = g.rounds; dues = g.count })) × (after ≡ set)
 check_accepts p set h reply = checks_one reply (plan_accepted p set h)

@@ -10,8 +10,8 @@
 --   back_not, closes_not == relaxed: a node that is reached may not, if from its new next value a path leads to it, or to a
 --                           closed path of nodes that were not reached
 --   seen_may             == relaxed: otherwise it may; what is reached grows by what is reached from its new next value
---   tried_leads, tried_strong, tried_unseen, tried_back, tried_closes, tried_seen == the same, each as an answer in its mode
-use Prim.Native.Nat.{ℕ, zero, suc, ◌<◌}
+--   tried_strong, tried_unseen, tried_back, tried_closes, tried_seen == the same, each as an answer in its mode
+use Prim.Native.Nat.{ℕ, ◌<◌}
 use native.Mathlib.Omega.{arith}
 use native.Mathlib.Decide.{ℕ_discrete, dec_lt}
 use mathlib.Core.Path.{◌≡◌, refl, sym, ap, ◌∙◌}
@@ -21,11 +21,15 @@ use mathlib.Core.Logic.{◌⊎◌, inl, inr, ⊎_elim}
 use lib.ListN.{length, get_or, set, get_or-eq_default}
 use lib.Seq.{get_or-set_same, get_or-set_other}
 use Rattle.graph.specs.Graph.{either, Ok, choices, choice_of, table, Path, stop, step, Around, Within}
-use Rattle.graph.specs.Search.{Steps, Reached, Marked, Cyclic}
+use Rattle.graph.specs.Search.{Steps, Reached, Leads, Marked, Cyclic}
 use Rattle.graph.proofs.Paths.{path_joins, path_more, path_maps, path_stays, around_maps, around_within, around_carries}
 use Rattle.graph.proofs.OneMore.{path_added, around_added, reached_added}
+use Rattle.rounds.specs.declared.mode.Mode.{Mode}
+use Rattle.rounds.specs.declared.mode.Mode.TheVariants.{Strong, Relaxed}
+use Rattle.rounds.specs.Mode.{mode_no}
 use Rattle.plans.specs.Working.{Closes, Fits, Seen, Free, Tried, may, may_not, Fresh, Closing, Merged}
 use Rattle.plans.proofs.IdLists.{by_bool, clash, either_or, or_left, or_right}
+use Rattle.plans.proofs.MarkLaws.{fresh_high}
 
 module _ {R : ℕ → ℕ → Type 0} (S : ℕ → Type 0) (closed : (x y : ℕ) → S x → R x y → S y) where
   pub path_outside : {w a : ℕ} → (S w → ⊥) → Path R w a → Path (Within (λ x. S x → ⊥) R) w a
@@ -126,7 +130,7 @@ module _ (a b : List ℕ) {c : List ℕ} {v : ℕ} (size : length c ≡ 512) (f 
           let P : Path (Steps a b c) v (table b v) = z.marked_is_reached v h in
           waits_by (v, then_reached P, back_around P)
 
-      module _ {n : List Bool} (d : Fresh m k n 512) where
+      module _ {n : List Bool} (d : Fresh m k n) where
         and_left : (x y : Bool) → (x && y) ≡ true → x ≡ true
         and_left true y q = refl
         and_left false y q = q
@@ -136,7 +140,7 @@ module _ (a b : List ℕ) {c : List ℕ} {v : ℕ} (size : length c ≡ 512) (f 
           where
             go : Dec (u < 512) → get_or k u false ≡ true
             go (yes l) = and_left (get_or k u false) (not (get_or m u false)) (sym (d.at u l) ∙ q)
-            go (no l) = clash q (d.past u (omega arith))
+            go (no l) = clash q (fresh_high d u (omega arith))
 
         pub closes_not : Cyclic a b c n true → Tried 1 a b c s v false m
         closes_not (u, A) =
@@ -182,7 +186,7 @@ module _ (a b : List ℕ) {c : List ℕ} {v : ℕ} (size : length c ≡ 512) (f 
                   to = mark y t.steps.steps.to t.steps.to t.to;
                 }
 
-        pub seen_may : get_or k v false ≡ false → Cyclic a b c n false → {m' : List Bool} → Merged m k m' 514 → Tried 1 a b c s v true m'
+        pub seen_may : get_or k v false ≡ false → Cyclic a b c n false → {m' : List Bool} → Merged m k m' → Tried 1 a b c s v true m'
         seen_may h l {m'} u =
             may (record { fits = λ p. ⊎_elim g.fits (λ q. ⊎_elim back (λ (x, P, A). l x (among x P A)) q.1) (reached_added steps_added p) })
             (record { size = u.size; seen = record { size = u.size; marked_is_reached = marked; reached_is_marked = reached } })
@@ -208,58 +212,37 @@ module _ (a b : List ℕ) {c : List ℕ} {v : ℕ} (size : length c ≡ 512) (f 
 
 -- ---- either mode
 
-fit_again : {mode mode' : ℕ} {a b c : List ℕ} {s v : ℕ} {r : Bool} {m : List Bool}
-    → ((c : List ℕ) → Closes mode' a b c s → Closes mode a b c s)
-    → ((c : List ℕ) → Closes mode a b c s → Closes mode' a b c s)
-    → ((c : List ℕ) → Seen mode a b c s m → Seen mode' a b c s m)
-    → Tried mode a b c s v r m
-    → Tried mode' a b c s v r m
-fit_again {c = c} {v = v} f h k (may x y) = may (record { fits = λ l. x.fits (f (set c v 2) l) }) (k (set c v 2) y)
-fit_again {c = c} {v = v} f h k (may_not x y) =
-    may_not (λ g. x (record { fits = λ l. g.fits (h (set c v 2) l) })) (k c y)
+not_strong : (z : Mode) → (z ≡ Strong → ⊥) → z ≡ Relaxed
+not_strong Strong n = absurd (n refl)
+not_strong Relaxed n = refl
 
-in_strong : {mode : ℕ} {a b c : List ℕ} {s v : ℕ} {r : Bool} {m m' : List Bool}
-    → mode ≡ 0
-    → Fits mode a b c s × Seen mode a b c s m
-    → (Fits 0 a b c s → Seen 0 a b c s m → Tried 0 a b c s v r m')
-    → Tried mode a b c s v r m'
-in_strong {mode = zero} e p f = f p.0 p.1
-in_strong {mode = suc k} e p f = absurd (omega arith)
-
-in_relaxed : {mode : ℕ} {a b c : List ℕ} {s v : ℕ} {r : Bool} {m m' : List Bool}
-    → (mode ≡ 0 → ⊥)
-    → Fits mode a b c s × Seen mode a b c s m
-    → (Fits 1 a b c s → Reached a b c s m → Tried 1 a b c s v r m')
-    → Tried mode a b c s v r m'
-in_relaxed {mode = zero} n p f = absurd (n refl)
-in_relaxed {mode = suc k} n p f =
-    fit_again {mode = 1} {mode' = suc k} (λ c l. l) (λ c l. l) (λ c q. record { size = q.size; seen = q.seen })
-    (f (record { fits = p.0.fits }) p.1.seen)
-
-module _ {mode : ℕ} {a b c : List ℕ} {s v : ℕ} {m : List Bool}
-    (free : (length c ≡ 512) × Free c v)
-    (fit : Fits mode a b c s × Seen mode a b c s m)
+module _ {z : Mode} {a b c : List ℕ} {s v : ℕ} {m : List Bool}
+    (size : length c ≡ 512)
+    (free : Free c v)
+    (fit : Fits (mode_no z) a b c s × Seen (mode_no z) a b c s m)
     {w : ℕ}
     (e : w ≡ table b v)
   where
-    pub tried_leads : mode ≡ 0 → Path (Steps a b c) v w → Tried mode a b c s v false m
-    tried_leads z P = in_strong z fit (λ g k. strong_not a b free.0 free.1 k (rw e at P))
+    pub tried_strong : z ≡ Strong → (r : Bool) → Leads a b c w v r → Tried (mode_no z) a b c s v (not r) m
+    tried_strong k true l = rw k (strong_not a b size free (rw k at fit.1) (rw e at l.1))
+    tried_strong k false l = rw k (strong_may a b size free (rw k at fit.0) (rw k at fit.1) (rw e at l))
 
-    pub tried_strong : mode ≡ 0 → (v < 514 → Path (Steps a b c) v w → ⊥) → Tried mode a b c s v true m
-    tried_strong z n = in_strong z fit (λ g k. strong_may a b free.0 free.1 g k (rw e at n))
+    module _ (n : z ≡ Strong → ⊥) where
+      relaxed : {r : Bool} {m' : List Bool}
+          → (Fits 1 a b c s → Reached a b c s m → Tried 1 a b c s v r m')
+          → Tried (mode_no z) a b c s v r m'
+      relaxed f = rw (not_strong z n) (f (rw (not_strong z n) at fit.0) (rw (not_strong z n) at fit.1).seen)
 
-    module _ (z : mode ≡ 0 → ⊥) where
-      pub tried_unseen : get_or m v false ≡ false → Tried mode a b c s v true m
-      tried_unseen h = in_relaxed z fit (λ g r. unseen_may a b free.0 free.1 g r h)
+      pub tried_unseen : get_or m v false ≡ false → Tried (mode_no z) a b c s v true m
+      tried_unseen h = relaxed (λ g r. unseen_may a b size free g r h)
 
       module _ {k : List Bool} (h : get_or m v false ≡ true) (x : Reached a b c w k) where
-        pub tried_back : get_or k v false ≡ true → Tried mode a b c s v false m
-        tried_back y = in_relaxed z fit (λ g r. back_not a b free.0 free.1 g r h (rw e at x) y)
+        pub tried_back : get_or k v false ≡ true → Tried (mode_no z) a b c s v false m
+        tried_back y = relaxed (λ g r. back_not a b size free g r h (rw e at x) y)
 
-        pub tried_closes : Closing a b c m k true → Tried mode a b c s v false m
-        tried_closes y = in_relaxed z fit (λ g r. closes_not a b free.0 free.1 g r h (rw e at x) y.fresh y.closed)
+        pub tried_closes : Closing a b c m k true → Tried (mode_no z) a b c s v false m
+        tried_closes y = relaxed (λ g r. closes_not a b size free g r h (rw e at x) y.fresh y.closed)
 
         pub tried_seen :
-            get_or k v false ≡ false → Closing a b c m k false → {m' : List Bool} → Merged m k m' 514 → Tried mode a b c s v true m'
-        tried_seen q y u =
-            in_relaxed z fit (λ g r. seen_may a b free.0 free.1 g r h (rw e at x) y.fresh q y.closed u)
+            get_or k v false ≡ false → Closing a b c m k false → {m' : List Bool} → Merged m k m' → Tried (mode_no z) a b c s v true m'
+        tried_seen q y u = relaxed (λ g r. seen_may a b size free g r h (rw e at x) y.fresh q y.closed u)

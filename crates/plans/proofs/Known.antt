@@ -8,9 +8,10 @@
 --   well c               == the test of the case c; well_holds == what this tells
 --   all_well_hold        == cases that all pass their tests hold
 --   all_hold             == K1 to K14
+use Rattle.rounds.specs.States.{a_drop, a_loop}
 use Prim.Native.Nat.{ℕ}
 use mathlib.Core.Path.{◌≡◌, refl, sym, ap, ◌∙◌}
-use mathlib.Core.Bool.{Bool, true, false, not, ◌&&◌}
+use mathlib.Core.Bool.{cond, Bool, true, false, not, ◌&&◌}
 use mathlib.Core.List.{List, [], ◌∷◌}
 use mathlib.Core.Option.{Option, none, some}
 use lib.ListN.{length}
@@ -25,10 +26,9 @@ use Rattle.routes.specs.Jumps.{jump, has_jump}
 use Rattle.routes.specs.Walk as walk
 use Rattle.routes.specs.Walk.{in_state, Walks, arrived, dropped}
 use Rattle.routes.specs.declared.walk.Walked.{Walked}
-use Rattle.routes.specs.declared.walk.Walked.TheVariants.{Arrived, Dropped, Looped, Refused}
+use Rattle.routes.specs.declared.walk.Walked.TheVariants.{Arrived, Dropped, Looped}
 use Rattle.rounds.specs.States.{Fault}
 use Rattle.rounds.specs.Replies.{fault_of}
-use Rattle.rounds.specs.Working.{fault_if}
 use Rattle.plans.specs.Known.{
   ids_in,
   sizes_in,
@@ -101,7 +101,6 @@ unfolding walk.place at_node nowhere
 walk_well f s d (Arrived k) = at_node (walk.place f s k) d
 walk_well f s d (Dropped v k) = at_node (walk.place f s k) v && not (eqb v d) && nowhere (f v)
 walk_well f s d (Looped v k) = false
-walk_well f s d (Refused r) = false
 
 walk_is : (f : ℕ → Option ℕ) (s d : ℕ) (a : Walked) → walk_well f s d a ≡ true → Walks f s d a
 unfolding walk_well
@@ -111,12 +110,11 @@ walk_is f s d (Dropped v k) e =
     let y = and_both x.0 in
     dropped (at_node_is (walk.place f s k) v y.0) (eqb-false v d (not-true (eqb v d) y.1)) (nowhere_is (f v) x.1)
 walk_is f s d (Looped v k) e = clash e refl
-walk_is f s d (Refused r) e = clash e refl
 
 -- ---- the cases
 
 abbrev pub fault_of_known : ℕ → Fault
-fault_of_known nr = fault_if (eqb nr 16)
+fault_of_known nr = cond (eqb nr 16) a_drop a_loop
 
 unfoldable pub well : Case → Bool
 unfolding

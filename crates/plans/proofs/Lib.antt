@@ -22,8 +22,8 @@ pub mod ComputeChecks
 pub mod Known
 pub mod WriteLaws
 pub mod SeekLaws
-pub mod JoinLaws
 pub mod MarkLaws
+pub mod JoinLaws
 pub mod PassLaws
 pub mod MiddleLaws
 pub mod PlanLaws

@@ -28,6 +28,7 @@ use Rattle.routes.specs.Routes.{source}
 use Rattle.routes.specs.Jumps.{on}
 use Rattle.routes.specs.Walk.{State}
 use Rattle.routes.proofs.RuleLaws.{tally_cong, due_below}
+use Rattle.rounds.specs.declared.setting.Setting.{Setting}
 use Rattle.rounds.specs.States.{Fault, a_drop, a_loop}
 use Rattle.rounds.specs.Packet.{changed}
 use Rattle.rounds.proofs.Bridge.{Finds, Chooses, paths_same, around_same}
@@ -47,7 +48,7 @@ use Rattle.plans.specs.Plan.{
 }
 use Rattle.plans.specs.Plan as plan
 use Rattle.plans.specs.Working.{round_choice, placed, present, Closes, Fits, Free, Tries, all_tried, joins, waits}
-use Rattle.plans.specs.Working.{Lined, Passed, Added, Room, Wrote, Setting, Ahead, Middled}
+use Rattle.plans.specs.Working.{Lined, Passed, Added, Room, Wrote, SettingOf, Ahead, Middled}
 use Rattle.plans.proofs.IdLists.{
   by_bool,
   clash,
@@ -91,9 +92,9 @@ shown_chooses {c = c} s = record { at = λ v h. rw (s.earlier v, s.here v) (go (
     go (suc zero) = refl
     go (suc (suc k)) = rw (ne_eqb (suc (suc k)) 1 (λ e. omega arith), lt-ltb 1 (suc (suc k)) (omega arith))
 
-module _ {o n a b : List ℕ} {s : ℕ} (g : Setting o n a b s) where
+module _ {o n : List ℕ} {y : Setting} (g : SettingOf o n y) where
   module _ {P R : State} {c : List ℕ} (w : Shown P R c) where
-    finds_closes : (mode : ℕ) → Finds a_loop mode o n (round_choice P R) → Closes mode a b c s
+    finds_closes : (mode : ℕ) → Finds a_loop mode o n (round_choice P R) → Closes mode y.old y.new c y.source
     finds_closes zero (v, A) = (v, (around_same g.olds g.news (shown_chooses w) v).1 A)
     finds_closes (suc k) (v, Q, A) = (
       v,
@@ -101,7 +102,7 @@ module _ {o n a b : List ℕ} {s : ℕ} (g : Setting o n a b s) where
       (around_same g.olds g.news (shown_chooses w) v).1 A,
     )
 
-    closes_finds : (mode : ℕ) → Closes mode a b c s → Finds a_loop mode o n (round_choice P R)
+    closes_finds : (mode : ℕ) → Closes mode y.old y.new c y.source → Finds a_loop mode o n (round_choice P R)
     closes_finds zero (v, A) = (v, (around_same g.olds g.news (shown_chooses w) v).0 A)
     closes_finds (suc k) (v, Q, A) = (
       v,
@@ -109,14 +110,14 @@ module _ {o n a b : List ℕ} {s : ℕ} (g : Setting o n a b s) where
       (around_same g.olds g.news (shown_chooses w) v).0 A,
     )
 
-    pub fits_passes : {mode : ℕ} → Midway o n P R → Fits mode a b c s → RoundPasses mode o n P R
+    pub fits_passes : {mode : ℕ} → Midway o n P R → Fits mode y.old y.new c y.source → RoundPasses mode o n P R
     fits_passes {mode} m f = (passes_finds g.good mode P R).1 none
       where
         none : (x : Fault) → Finds x mode o n (round_choice P R) → ⊥
         none a_drop Q = midway_no_drop g.good m Q
         none a_loop l = f.fits (finds_closes mode l)
 
-    pub passes_fits : {mode : ℕ} → RoundPasses mode o n P R → Fits mode a b c s
+    pub passes_fits : {mode : ℕ} → RoundPasses mode o n P R → Fits mode y.old y.new c y.source
     passes_fits {mode} p = record { fits = λ l. (passes_finds g.good mode P R).0 p a_loop (closes_finds mode l) }
 
 pub record Ready (o n c vs : List ℕ) : Type 0 where
@@ -143,10 +144,10 @@ ready_joins {c = c} {vs} {v} r =
           in_none = get_or-set_other c v u 2 0 (λ q. clash (ap (on vs) (sym q) ∙ e) r.distinct.0) ∙ f.in_none;
         }
 
-module _ {o n a b : List ℕ} {s mode : ℕ} (g : Setting o n a b s) where
+module _ {o n : List ℕ} {y : Setting} {mode : ℕ} (g : SettingOf o n y) where
   pub tries_joining :
       {P R : State} {c c' vs W : List ℕ}
-      → Tries mode a b s vs c c' W
+      → Tries mode y.old y.new y.source vs c c' W
       → length c ≡ 512
       → Shown P R c
       → Midway o n P R
@@ -166,10 +167,10 @@ module _ {o n a b : List ℕ} {s mode : ℕ} (g : Setting o n a b s) where
       (plan.waits (λ p. f (passes_fits g w' p)) j, e)
 
 pub record Going
-    (mode : ℕ) (o n a b : List ℕ) (s : ℕ) (ids₀ sizes₀ : List ℕ) (k₀ m₀ : ℕ) (c left : List ℕ) (many : ℕ)
+    (mode : ℕ) (o n : List ℕ) (y : Setting) (ids₀ sizes₀ : List ℕ) (k₀ m₀ : ℕ) (c left : List ℕ) (many : ℕ)
     (ids sizes : List ℕ) (k m : ℕ)
     : Type 0 where
-  pub setting : Setting o n a b s
+  pub setting : SettingOf o n y
   pub waiting : Waiting mode o n (placed c) (take many left)
   pub ready : Ready o n c (take many left)
   pub none_present : (v : ℕ) → present c v ≡ false
@@ -194,11 +195,11 @@ free_at : {c : List ℕ} {v : ℕ} → v < 512 → placed c v ≡ false → pres
 free_at {c} {v} h e d = record { node = h; in_none = none_at (get_or c v 0) e d }
 
 pub going_begins :
-    {mode : ℕ} {o n a b c left ids sizes : List ℕ} {s many k m : ℕ}
-    → Setting o n a b s
+    {mode : ℕ} {o n c left ids sizes : List ℕ} {y : Setting} {many k m : ℕ}
+    → SettingOf o n y
     → Ahead o n c left many
     → Room c ids sizes k m
-    → Going mode o n a b s ids sizes k m c left many ids sizes k m
+    → Going mode o n y ids sizes k m c left many ids sizes k m
 going_begins {mode} {o} {n} {c = c} {left} {ids} {sizes} {many = many} {k} {m} g h r =
     record {
       setting = g;
@@ -234,8 +235,8 @@ going_begins {mode} {o} {n} {c = c} {left} {ids} {sizes} {many = many} {k} {m} g
         }
 
 module _
-    {mode : ℕ} {o n a b ids₀ sizes₀ c left ids sizes : List ℕ} {s k₀ m₀ many k m : ℕ}
-    (x : Going mode o n a b s ids₀ sizes₀ k₀ m₀ c left many ids sizes k m)
+    {mode : ℕ} {o n ids₀ sizes₀ c left ids sizes : List ℕ} {y : Setting} {k₀ m₀ many k m : ℕ}
+    (x : Going mode o n y ids₀ sizes₀ k₀ m₀ c left many ids sizes k m)
   where
     size : length (take many left) ≡ many
     size = length-take-le many left (omega (arith, x.most, x.places))
@@ -258,10 +259,10 @@ module _
         at : (j : ℕ) → j < many → get_or (take many left) j 0 ≡ get_or left j 0
         at j h = get_or-take many left j 0 h
 
-    pub going_fits : Fits mode a b c s
+    pub going_fits : Fits mode y.old y.new c y.source
     going_fits = passes_fits x.setting shown x.waiting.passes
 
-    module _ {c' left' : List ℕ} {many' : ℕ} (p : Passed mode a b s c left many c' left' many') where
+    module _ {c' left' : List ℕ} {many' : ℕ} (p : Passed mode y.old y.new y.source c left many c' left' many') where
       joined : Joining mode o n (placed c) (take many left) nothing (present c') (take many' left') × ((v : ℕ) → placed c v ≡ placed c' v)
       joined = tries_joining x.setting p.tried x.room.choices shown x.waiting.midway x.ready
 
@@ -317,7 +318,7 @@ module _
         now_placed : together (placed c) (present c') ≡ placed c''
         now_placed = fun_ext (λ v. rw (joined.1 v) (sym (w.now_placed v)))
 
-        pub going_turn : Going mode o n a b s ids₀ sizes₀ k₀ m₀ c'' left' many' ids' sizes' k' m'
+        pub going_turn : Going mode o n y ids₀ sizes₀ k₀ m₀ c'' left' many' ids' sizes' k' m'
         going_turn =
             record {
               setting = x.setting;

@@ -4,6 +4,9 @@
 --   plan_rounds_one == a pair of routes has one list of rounds in a mode
 --   plans_one      == an input has one reply, and one content of the lent memory after it
 --   quicks_one     == the same of the quick planner
+use Rattle.house.specs.declared.Refusal.{Refusal}
+use Rattle.std.specs.Prelude.{Result, Ok, Err}
+use Rattle.plans.specs.declared.Given.{Given}
 use Prim.Native.Nat.{ℕ}
 use mathlib.Core.Path.{◌≡◌, refl, sym, ap, ap₂, subst₂, ◌∙◌}
 use mathlib.Core.List.{List, ◌∷◌, ◌++◌}
@@ -24,8 +27,6 @@ use Rattle.plans.specs.Plan.{
 }
 use Rattle.plans.proofs.PlanSets.{joining_one}
 use Rattle.plans.specs.Replies.{Plans, refused, given, overlaid, Quicks}
-use Rattle.plans.specs.declared.plan.Planned.{Planned}
-use Rattle.plans.specs.declared.plan.Planned.TheVariants.{Given, Refused}
 
 pub middle_one :
     {mode : ℕ} {o n : List ℕ} {P : State} {vs : List ℕ} {Rs Rs' : List State}
@@ -47,39 +48,42 @@ plan_rounds_one {mode} {o} {n} p q =
 
 -- two replies that give the same rounds are one
 same_rounds :
-    (ids sizes : List ℕ) {ids1 ids2 sizes1 sizes2 : List ℕ} {k1 k2 m1 m2 : ℕ} {Rs Ss : List State}
+    (ids sizes : List ℕ) {ids1 ids2 sizes1 sizes2 : List ℕ} {g h : Given} {Rs Ss : List State}
     → Rs ≡ Ss
-    → k1 ≡ length Rs
-    → m1 ≡ length (ids_of Rs)
+    → g.rounds ≡ length Rs
+    → g.count ≡ length (ids_of Rs)
     → ids1 ≡ overlaid (ids_of Rs) ids
     → sizes1 ≡ overlaid (sizes_of Rs) sizes
-    → k2 ≡ length Ss
-    → m2 ≡ length (ids_of Ss)
+    → h.rounds ≡ length Ss
+    → h.count ≡ length (ids_of Ss)
     → ids2 ≡ overlaid (ids_of Ss) ids
     → sizes2 ≡ overlaid (sizes_of Ss) sizes
-    → (Given k1 m1 ≡ Given k2 m2) × (ids1 ≡ ids2) × (sizes1 ≡ sizes2)
-same_rounds ids sizes e r k i z s l j y = (
-  ap₂ Given (r ∙ ap length e ∙ sym s) (k ∙ ap (λ (Rs : List State). length (ids_of Rs)) e ∙ sym l),
+    → (◌≡◌ {A = Result Given Refusal} (Ok g) (Ok h)) × (ids1 ≡ ids2) × (sizes1 ≡ sizes2)
+same_rounds ids sizes {g = g} {h} e r k i z s l j y = (
+  ap Ok (same (r ∙ ap length e ∙ sym s) (k ∙ ap (λ (Rs : List State). length (ids_of Rs)) e ∙ sym l)),
   i ∙ ap (λ (Rs : List State). overlaid (ids_of Rs) ids) e ∙ sym j,
   z ∙ ap (λ (Rs : List State). overlaid (sizes_of Rs) sizes) e ∙ sym y,
 )
+  where
+    same : g.rounds ≡ h.rounds → g.count ≡ h.count → g ≡ h
+    same p q = λ i. record { rounds = p i; count = q i }
 
 pub plans_one :
-    {old new : List ℕ} {mode : ℕ} {ids sizes : List ℕ} {a b : Planned} {ids1 ids2 sizes1 sizes2 : List ℕ}
+    {old new : List ℕ} {mode : ℕ} {ids sizes : List ℕ} {a b : Result Given Refusal} {ids1 ids2 sizes1 sizes2 : List ℕ}
     → Plans old new mode ids sizes a ids1 sizes1
     → Plans old new mode ids sizes b ids2 sizes2
     → (a ≡ b) × (ids1 ≡ ids2) × (sizes1 ≡ sizes2)
-plans_one (refused f i z) (refused g j y) = (ap Refused (first_one f g), i ∙ sym j, z ∙ sym y)
+plans_one (refused f i z) (refused g j y) = (ap Err (first_one f g), i ∙ sym j, z ∙ sym y)
 plans_one (refused f i z) (given c p r k j y) = absurd (first_not_clear f c)
 plans_one (given c p r k j y) (refused f i z) = absurd (first_not_clear f c)
 plans_one {ids = ids} {sizes = sizes} (given c p r k i z) (given d q s l j y) = same_rounds ids sizes (plan_rounds_one p q) r k i z s l j y
 
 pub quicks_one :
-    {old new : List ℕ} {mode : ℕ} {ids sizes : List ℕ} {a b : Planned} {ids1 ids2 sizes1 sizes2 : List ℕ}
+    {old new : List ℕ} {mode : ℕ} {ids sizes : List ℕ} {a b : Result Given Refusal} {ids1 ids2 sizes1 sizes2 : List ℕ}
     → Quicks old new mode ids sizes a ids1 sizes1
     → Quicks old new mode ids sizes b ids2 sizes2
     → (a ≡ b) × (ids1 ≡ ids2) × (sizes1 ≡ sizes2)
-quicks_one (refused f i z) (refused g j y) = (ap Refused (first_one f g), i ∙ sym j, z ∙ sym y)
+quicks_one (refused f i z) (refused g j y) = (ap Err (first_one f g), i ∙ sym j, z ∙ sym y)
 quicks_one (refused f i z) (given c p r k j y) = absurd (first_not_clear f c)
 quicks_one (given c p r k j y) (refused f i z) = absurd (first_not_clear f c)
 quicks_one {ids = ids} {sizes = sizes} (given c p r k i z) (given d q s l j y) = same_rounds ids sizes (p ∙ sym q) r k i z s l j y

@@ -1,37 +1,25 @@
 -- Laws of a pass over the switches left. Assumes nothing.
 --
 --   glance_strong, glance_relaxed == what is seen at first
---   settled_joins, settled_waits == the answer for one switch, as it is carried out
---   pass_begins, pass_turn, pass_ends == a pass, one switch more at a time
+--   pass_begins, pass_joins, pass_waits, pass_turn, pass_ends == a pass, one switch more at a time, which joins or waits
 --   pass_free            == the switch that comes next is of no round yet
-use Prim.Native.Nat.{ℕ, zero, suc, ◌+◌, ◌<◌, ◌≤◌}
+use Prim.Native.Nat.{ℕ, suc, ◌+◌, ◌<◌, ◌≤◌}
 use native.Mathlib.Omega.{arith}
 use native.Mathlib.Numerals.{add-one}
-use mathlib.Core.Path.{◌≡◌, refl, sym, ap, ◌∙◌, subst}
-use mathlib.Core.Bool.{Bool, true, false}
+use mathlib.Core.Path.{◌≡◌, refl, sym, ap, ◌∙◌}
+use mathlib.Core.Bool.{Bool, true, false, cond}
 use mathlib.Core.List.{List, [], ◌∷◌, append_assoc, append-nil}
 use lib.ListN.{length, get_or, set, take, drop, length-set, drop_of_length-le, length-replicate, replicate}
 use lib.Seq.{drop-drop, drop-cons, drop-set-lt, take-set-lt, take-suc-set, length-take-le, get_or-take, get_or-set_other}
 use Rattle.graph.specs.Search.{Reached}
 use Rattle.plans.specs.Working.{Fits, Seen, Free, Tried, may, may_not, Tries, all_tried, joins, waits}
-use Rattle.plans.specs.Working.{Lined, Settled, joined, kept_back, Pass, Passed}
+use Rattle.plans.specs.Working.{Lined, Pass, Passed}
 
-pub glance_strong : {mode : ℕ} (a b c : List ℕ) (s : ℕ) → mode ≤ 0 → Seen mode a b c s (replicate 514 false)
-glance_strong {mode = zero} a b c s e = record { size = length-replicate 514 false; seen = tt }
-glance_strong {mode = suc k} a b c s e = absurd (omega arith)
+pub glance_strong : (a b c : List ℕ) (s : ℕ) → Seen 0 a b c s (replicate 514 false)
+glance_strong a b c s = record { size = length-replicate 514 false; seen = tt }
 
-pub glance_relaxed : {mode : ℕ} {a b c : List ℕ} {s : ℕ} {m : List Bool} → 0 < mode → Reached a b c s m → Seen mode a b c s m
-glance_relaxed {mode = zero} n r = absurd (omega arith)
-glance_relaxed {mode = suc k} n r = record { size = r.size; seen = r }
-
-module _ {mode : ℕ} {a b c left : List ℕ} {s v i : ℕ} {m : List Bool} (kept : ℕ) (e : v ≡ get_or left i 0) where
-  pub settled_joins : Tried mode a b c s v true m → Settled mode a b s c left i kept (set c v 2) m left kept
-  settled_joins (may f k) = joined e f k
-
-  pub settled_waits :
-      {x : ℕ} → v ≡ x → Tried mode a b c s v false m → Settled mode a b s c left i kept c m (set left kept x) (kept + 1)
-  settled_waits q (may_not f k) =
-      subst (λ (y : ℕ). Settled mode a b s c left i kept c m (set left kept y) (kept + 1)) q (kept_back e f k)
+pub glance_relaxed : {a b c : List ℕ} {s : ℕ} {m : List Bool} → Reached a b c s m → Seen 1 a b c s m
+glance_relaxed r = record { size = r.size; seen = r }
 
 pub pass_begins :
     {mode : ℕ} {a b c left : List ℕ} {s many : ℕ} {m : List Bool}
@@ -68,12 +56,13 @@ module _ {mode : ℕ} {a b c₀ left₀ c left : List ℕ} {s many i kept : ℕ}
         → Tries mode a b s (drop (suc i) (take many left)) k c' W
     after h k c' W t = rw (rest h) (rw (add-one i) at t)
 
-    pub pass_turn :
-        {c'' left' : List ℕ} {m' : List Bool} {kept' : ℕ}
+    pub pass_joins :
+        {v : ℕ} {m' : List Bool}
         → i < many
-        → Settled mode a b s c left i kept c'' m' left' kept'
-        → Pass mode a b s c₀ left₀ many m' c'' left' (i + 1) kept'
-    pass_turn h (joined {v} e f k) =
+        → v ≡ get_or left i 0
+        → Tried mode a b c s v true m'
+        → Pass mode a b s c₀ left₀ many m' (set c v 2) left (i + 1) kept
+    pass_joins {v} h e (may f k) =
         record {
           lined =
               record {
@@ -99,7 +88,14 @@ module _ {mode : ℕ} {a b c₀ left₀ c left : List ℕ} {s many i kept : ℕ}
                   get_or-set_other c v (get_or left j 0) 2 0 (λ q. p.lined.distinct i j (omega arith) l u (sym e ∙ sym q))
                   ∙ z.in_none;
             }
-    pass_turn h (kept_back {v} e f k) =
+
+    pub pass_waits :
+        {v : ℕ} {m' : List Bool}
+        → i < many
+        → v ≡ get_or left i 0
+        → Tried mode a b c s v false m'
+        → Pass mode a b s c₀ left₀ many m' c (set left kept v) (i + 1) (kept + 1)
+    pass_waits {v} h e (may_not f k) =
         record {
           lined =
               record {
@@ -134,6 +130,16 @@ module _ {mode : ℕ} {a b c₀ left₀ c left : List ℕ} {s many i kept : ℕ}
         stays =
             rw (take-set-lt many left kept v (omega (arith, p.fewer)))
             (drop-set-lt (suc i) (take many left) kept v (omega (arith, p.fewer)))
+
+    -- whichever it does
+    pub pass_turn :
+        {v : ℕ} {r : Bool} {m' : List Bool}
+        → i < many
+        → v ≡ get_or left i 0
+        → Tried mode a b c s v r m'
+        → Pass mode a b s c₀ left₀ many m' (cond r (set c v 2) c) (cond r left (set left kept v)) (i + 1) (cond r kept (kept + 1))
+    pass_turn {r = true} h e t = pass_joins h e t
+    pass_turn {r = false} h e t = pass_waits h e t
 
     pub pass_ends : many ≤ i → Passed mode a b s c₀ left₀ many c left kept
     pass_ends h =

@@ -13,10 +13,11 @@
 --   begun_ahead          == when the installs are written all switches wait
 --   ends_room            == after the rounds of switches there is room for the removes
 --   written              == all rounds are written
---   fit_short_ids, fit_short_sizes, fit_judged, fit_mode, fit_sound == the answers of `fit`
+--   fit_short_ids, fit_short_sizes, fit_judged, fit_mode == the answers of `fit`
 --   fit_first, fit_clear == what an answer of `fit` says, by its variant
 --   clear_fit            == where no refusal applies the pair is good and the lent lengths are enough
 --   reply_refused, reply_given == the replies
+use Rattle.std.specs.Prelude.{Result, Ok, Err}
 use Prim.Native.Nat.{ℕ, zero, suc, ◌<◌, ◌≤◌}
 use native.Mathlib.Omega.{arith}
 use native.Mathlib.Decide.{dec_lt}
@@ -33,26 +34,29 @@ use Rattle.house.specs.Numbers.{entries}
 use Rattle.house.specs.Refusals.{number, Before, First, Clear}
 use Rattle.house.proofs.RefusalLaws.{unfit_first, before_irreflexive}
 use Rattle.graph.proofs.Sums.{get_d_repeat}
-use Rattle.routes.specs.declared.pair.Judged.{Judged}
-use Rattle.routes.specs.declared.pair.Judged.TheVariants.{Sound, Faulty}
 use Rattle.routes.specs.declared.rule.Change.{Change}
 use Rattle.routes.specs.declared.rule.Change.TheVariants.{Kept, Install, Remove, Switch}
 use Rattle.routes.specs.Routes.{GoodRoute, Good}
 use Rattle.routes.specs.Rules.{rule, change, value, Values, tally}
-use Rattle.routes.specs.Replies.{JudgeFault}
+use Rattle.routes.specs.Replies.{JudgeFault, Judges, sound, faulty as unsound}
 use Rattle.routes.specs.Walk.{State}
 use Rattle.routes.proofs.RuleLaws.{value_off, change_values, tally_cong}
 use Rattle.routes.proofs.PairLaws.{judge_first_in, clear_good}
-use Rattle.rounds.specs.Tests.{Answers, sound, faulty}
+use Rattle.rounds.specs.declared.mode.Mode.{Mode}
+use Rattle.rounds.specs.declared.mode.Mode.TheVariants.{Strong, Relaxed}
+use Rattle.rounds.specs.Mode.{mode_no, ModeOf, is_mode, over}
+use Rattle.plans.specs.declared.Given.{Given}
 use Rattle.plans.specs.Plan.{nothing, together, is_install, is_remove, is_switch, installs, removes, keep, some_round, switched}
 use Rattle.plans.specs.Replies.{PlanFault, short_ids, short_sizes, judged, mode_over, Plans, refused, given}
-use Rattle.plans.specs.declared.plan.Planned.TheVariants.{Given, Refused}
 use Rattle.plans.specs.Working.{
   placed,
   present,
   code_of,
   code_at,
   coded,
+  FitIs,
+  fits,
+  faulty,
   Sought,
   Backward,
   Added,
@@ -261,16 +265,20 @@ module _ {o n a b : List ℕ} (g : Good o n) (x : Values o a) (y : Values n b) w
 
 -- ---- the replies
 
+mode_most : {mode : ℕ} (m : Mode) → mode ≡ mode_no m → 1 < mode → ⊥
+mode_most Strong e h = omega (arith, e)
+mode_most Relaxed e h = omega (arith, e)
+
 module _ {old new ids sizes : List ℕ} {mode : ℕ} where
-  pub fit_short_ids : length ids < 1024 → Answers (PlanFault old new mode ids sizes) (Faulty Unfit)
+  pub fit_short_ids : length ids < 1024 → FitIs old new mode ids sizes (Err Unfit)
   fit_short_ids h = faulty (unfit_first (short_ids h))
 
-  pub fit_short_sizes : length sizes < 1024 → Answers (PlanFault old new mode ids sizes) (Faulty Unfit)
+  pub fit_short_sizes : length sizes < 1024 → FitIs old new mode ids sizes (Err Unfit)
   fit_short_sizes h = faulty (unfit_first (short_sizes h))
 
   module _ (h : 1024 ≤ length ids) (l : 1024 ≤ length sizes) where
-    pub fit_judged : {r : Refusal} → First (JudgeFault old new) r → Answers (PlanFault old new mode ids sizes) (Faulty r)
-    fit_judged f = faulty (judge_first_in out judged f)
+    pub fit_judged : {r : Refusal} → Judges old new (Err r) → FitIs old new mode ids sizes (Err r)
+    fit_judged (unsound f) = faulty (judge_first_in out judged f)
       where
         out : (q : Refusal) → PlanFault old new mode ids sizes q → JudgeFault old new q ⊎ (7 < number q)
         out q (short_ids k) = absurd (omega arith)
@@ -278,36 +286,27 @@ module _ {old new ids sizes : List ℕ} {mode : ℕ} where
         out q (judged j) = inl j
         out q (mode_over k) = inr (omega arith)
 
-    module _ (c : Clear (JudgeFault old new)) where
-      pub fit_mode : 1 < mode → Answers (PlanFault old new mode ids sizes) (Faulty ModeOver)
-      fit_mode k = faulty (record { applies = mode_over k; lowest = least })
-        where
-          least : (q : Refusal) → PlanFault old new mode ids sizes q → Before q ModeOver → ⊥
-          least q (short_ids u) b = omega arith
-          least q (short_sizes u) b = omega arith
-          least q (judged j) b = c.clear q j
-          least q (mode_over u) b = before_irreflexive b
+    pub fit_mode : {m : Result Mode Refusal} → Judges old new (Ok tt) → ModeOf mode m → FitIs old new mode ids sizes m
+    fit_mode (sound c) (is_mode {m} e) = fits (record { clear = none }) e
+      where
+        none : (q : Refusal) → PlanFault old new mode ids sizes q → ⊥
+        none q (short_ids k) = omega arith
+        none q (short_sizes k) = omega arith
+        none q (judged j) = c.clear q j
+        none q (mode_over k) = mode_most m e k
+    fit_mode (sound c) (over k) = faulty (record { applies = mode_over k; lowest = least })
+      where
+        least : (q : Refusal) → PlanFault old new mode ids sizes q → Before q ModeOver → ⊥
+        least q (short_ids u) b = omega arith
+        least q (short_sizes u) b = omega arith
+        least q (judged j) b = c.clear q j
+        least q (mode_over u) b = before_irreflexive b
 
-      pub fit_sound : mode ≤ 1 → Answers (PlanFault old new mode ids sizes) Sound
-      fit_sound u = sound (record { clear = none })
-        where
-          none : (q : Refusal) → PlanFault old new mode ids sizes q → ⊥
-          none q (short_ids k) = omega arith
-          none q (short_sizes k) = omega arith
-          none q (judged j) = c.clear q j
-          none q (mode_over k) = omega arith
+  pub fit_first : {r : Refusal} → FitIs old new mode ids sizes (Err r) → First (PlanFault old new mode ids sizes) r
+  fit_first (faulty f) = f
 
-  pub fit_first :
-      {a : Judged} {r : Refusal}
-      → a ≡ Faulty r
-      → Answers (PlanFault old new mode ids sizes) a
-      → First (PlanFault old new mode ids sizes) r
-  fit_first e (sound k) = let z : ◌≡◌ {A = ℕ} 0 1 = cc in absurd (omega arith)
-  fit_first {r = r} e (faulty {r = q} f) = let p : q ≡ r = cc in rw p at f
-
-  pub fit_clear : {a : Judged} → a ≡ Sound → Answers (PlanFault old new mode ids sizes) a → Clear (PlanFault old new mode ids sizes)
-  fit_clear e (sound k) = k
-  fit_clear e (faulty f) = let z : ◌≡◌ {A = ℕ} 0 1 = cc in absurd (omega arith)
+  pub fit_clear : {m : Mode} → FitIs old new mode ids sizes (Ok m) → Clear (PlanFault old new mode ids sizes) × (mode ≡ mode_no m)
+  fit_clear (fits k e) = (k, e)
 
   pub clear_fit :
       Clear (PlanFault old new mode ids sizes)
@@ -317,12 +316,12 @@ module _ {old new ids sizes : List ℕ} {mode : ℕ} where
       let k : length sizes < 1024 → ⊥ = λ l. c.clear Unfit (short_sizes l) in
       (clear_good (record { clear = λ q f. c.clear q (judged f) }), omega arith, omega arith)
 
-  pub reply_refused : {r : Refusal} → First (PlanFault old new mode ids sizes) r → Plans old new mode ids sizes (Refused r) ids sizes
-  reply_refused f = refused f refl refl
+  pub reply_refused : {r : Refusal} → FitIs old new mode ids sizes (Err r) → Plans old new mode ids sizes (Err r) ids sizes
+  reply_refused f = refused (fit_first f) refl refl
 
   pub reply_given :
-      {ids' sizes' : List ℕ} {k m : ℕ}
-      → Clear (PlanFault old new mode ids sizes)
-      → Written mode (entries old) (entries new) ids sizes ids' sizes' k m
-      → Plans old new mode ids sizes (Given k m) ids' sizes'
-  reply_given c w = let z = added_all w.added in given c w.planned z.0 z.1 z.2 z.3
+      {m : Mode} {ids' sizes' : List ℕ} {g : Given}
+      → FitIs old new mode ids sizes (Ok m)
+      → Written (mode_no m) (entries old) (entries new) ids sizes ids' sizes' g.rounds g.count
+      → Plans old new mode ids sizes (Ok g) ids' sizes'
+  reply_given {m} (fits c e) w = let z = added_all w.added in given c (rw e w.planned) z.0 z.1 z.2 z.3

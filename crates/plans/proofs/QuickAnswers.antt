@@ -7,6 +7,8 @@
 --   both_back_refused == and where nothing else is to be refused and a switch is BB, it is given
 --   refused_none      == where it is given, no schedule passes, in either mode, that has all installs in a first round, all
 --                        removes in a last and the switches in at most two rounds between
+use Rattle.std.specs.Prelude.{Result, Ok, Err}
+use Rattle.plans.specs.declared.Given.{Given}
 use Prim.Native.Nat.{ℕ, ◌*◌, ◌<◌, ◌≤◌}
 use native.Mathlib.Omega.{arith}
 use mathlib.Core.Path.{◌≡◌, refl}
@@ -21,11 +23,8 @@ use Rattle.routes.specs.Routes.{Good}
 use Rattle.routes.proofs.PairLaws.{clear_good}
 use Rattle.rounds.specs.States.{Passes}
 use Rattle.rounds.specs.Replies.{Checks}
-use Rattle.rounds.specs.declared.check.Checked.TheVariants.{Accepted}
 use Rattle.plans.specs.TwoBetween.{both_back, TwoBetween}
 use Rattle.plans.specs.Replies.{PlanFault, judged, Plans, QuickFault, planner, both_backward, Quicks, refused, given}
-use Rattle.plans.specs.declared.plan.Planned.{Planned}
-use Rattle.plans.specs.declared.plan.Planned.TheVariants.{Given, Refused}
 use Rattle.plans.proofs.CheckAccepts.{plan_accepted}
 use Rattle.plans.proofs.TwoRounds.{as_planned, none_two_between}
 use Rattle.plans.proofs.QuickLaws.{plan_low}
@@ -34,9 +33,9 @@ plan_good : {old new : List ℕ} {mode : ℕ} {ids sizes : List ℕ} → Clear (
 plan_good k = clear_good (record { clear = λ q f. k.clear q (judged f) })
 
 pub given_as_planned :
-    {old new : List ℕ} {mode : ℕ} {ids sizes ids' sizes' : List ℕ} {rounds count : ℕ}
-    → Quicks old new mode ids sizes (Given rounds count) ids' sizes'
-    → Plans old new mode ids sizes (Given rounds count) ids' sizes'
+    {old new : List ℕ} {mode : ℕ} {ids sizes ids' sizes' : List ℕ} {g : Given}
+    → Quicks old new mode ids sizes (Ok g) ids' sizes'
+    → Plans old new mode ids sizes (Ok g) ids' sizes'
 given_as_planned {old} {new} {mode} {ids} {sizes} (given {Rs = Rs} k e r c i z) =
     let fit : Clear (PlanFault old new mode ids sizes) = record { clear = λ q f. k.clear q (planner f) } in
     given {Rs = Rs} fit
@@ -44,11 +43,11 @@ given_as_planned {old} {new} {mode} {ids} {sizes} (given {Rs = Rs} k e r c i z) 
     r c i z
 
 pub given_accepted :
-    {old new : List ℕ} {mode : ℕ} {ids sizes ids' sizes' : List ℕ} {rounds count : ℕ}
-    → Quicks old new mode ids sizes (Given rounds count) ids' sizes'
+    {old new : List ℕ} {mode : ℕ} {ids sizes ids' sizes' : List ℕ} {g : Given}
+    → Quicks old new mode ids sizes (Ok g) ids' sizes'
     → (set : List ℕ)
     → 64 ≤ length set
-    → Checks old new mode (take (2 * count) ids') (take (2 * rounds) sizes') set (Accepted rounds count) set
+    → Checks old new mode (take (2 * g.count) ids') (take (2 * g.rounds) sizes') set (Ok (record { rounds = g.rounds; dues = g.count })) set
 given_accepted q set h = plan_accepted (given_as_planned q) set h
 
 pub record Stands (old new : List ℕ) (mode : ℕ) (ids sizes : List ℕ) (v : ℕ) : Type 0 where
@@ -63,7 +62,7 @@ module _ {old new : List ℕ} {mode : ℕ} {ids sizes : List ℕ} where
 
   pub refused_both_back :
       {v : ℕ} {ids' sizes' : List ℕ}
-      → Quicks old new mode ids sizes (Refused (BothBackward v)) ids' sizes'
+      → Quicks old new mode ids sizes (Err (BothBackward v)) ids' sizes'
       → Stands old new mode ids sizes v
   refused_both_back {v} (refused f i z) =
       record {
@@ -73,22 +72,22 @@ module _ {old new : List ℕ} {mode : ℕ} {ids sizes : List ℕ} where
       }
 
   pub both_back_refused :
-      {a : Planned} {ids' sizes' : List ℕ}
+      {a : Result Given Refusal} {ids' sizes' : List ℕ}
       → Clear (PlanFault old new mode ids sizes)
       → (v : ℕ)
       → both_back (entries old) (entries new) v ≡ true
       → Quicks old new mode ids sizes a ids' sizes'
-      → (u : ℕ) × (a ≡ Refused (BothBackward u))
+      → (u : ℕ) × (a ≡ Err (BothBackward u))
   both_back_refused k v b (given c e r n i z) = absurd (c.clear (BothBackward v) (both_backward b))
   both_back_refused k v b (refused {r} f i z) = told f.applies
     where
-      told : {q : Refusal} → QuickFault old new mode ids sizes q → (u : ℕ) × (◌≡◌ {A = Planned} (Refused q) (Refused (BothBackward u)))
+      told : {q : Refusal} → QuickFault old new mode ids sizes q → (u : ℕ) × (◌≡◌ {A = Result Given Refusal} (Err q) (Err (BothBackward u)))
       told (planner p) = absurd (k.clear _ p)
       told (both_backward {v = u} e) = (u, refl)
 
   pub refused_none :
       {v : ℕ} {ids' sizes' : List ℕ}
-      → Quicks old new mode ids sizes (Refused (BothBackward v)) ids' sizes'
+      → Quicks old new mode ids sizes (Err (BothBackward v)) ids' sizes'
       → (is zs : List ℕ)
       → TwoBetween (entries old) (entries new) is zs
       → (any_mode : ℕ)

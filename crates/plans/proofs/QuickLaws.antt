@@ -1,13 +1,17 @@
 -- Laws of the quick planner: positions, the signs of jumps, its four rounds, and the replies. Assumes nothing.
 --
 --   places_begins, places_more == the positions of a route's ids, one id more at a time
---   places_off, places_on == whether a node is on the route, by its number in the table
---   last_place p w       == the position on p of a node, if there is one; 0 else
+--   places_off, places_on == whether a node is on the route, by what the table holds
+--   place_of p w         == the position on p of a node, if there is one
+--   stands_before x w    == the position x comes before the position w, if there is one
+--   before_is            == what a test of a position that may be there tells
 --   positive_difference  == the sign of a difference
 --   jump_sign            == a jump is positive exactly if the node stands on p before the next meeting node
---   Passing p q m last i == the marks of q's nodes from index i on, and the position on p of the first of these on both routes
+--   Passing p q m next i == the marks of q's nodes from index i on, and the position on p of the first of these on both routes
 --   passing_begins, passing_off, passing_on == one node more at a time, from the end of q
 --   passed               == all nodes are marked
+--   signed_told          == whether a node is a switch with this mark, by a test of it
+--   One, Two, Three      == what stands written and placed after the first round, the second and the third
 --   forward_room, forward_more == the round of the switches that go forward
 --   rest_room, rest_more == the round of the other switches
 --   last_room, all_four  == the round of the removes, and then all four
@@ -17,13 +21,17 @@
 --   back_both, both_back_known == the switches marked in neither order are those that go backward in both
 --   four_quick           == the four rounds are those of the quick plan
 --   quick_refused, quick_back, quick_given == the replies
+use Rattle.std.specs.Prelude.{Option, Some, None, Ok, Err}
 use Prim.Native.Nat.{ℕ, zero, suc, ◌+◌, ◌-◌, ◌<◌, ◌≤◌}
 use native.Mathlib.Omega.{arith}
 use native.Mathlib.Decide.{dec_lt, ℕ_discrete}
 use mathlib.Core.Path.{◌≡◌, refl, sym, ap, ◌∙◌, fun_ext}
 use mathlib.Core.Bool.{Bool, true, false, not, ◌&&◌, beq}
 use mathlib.Core.List.{List, ◌++◌, append_assoc}
-use mathlib.Core.Option.{Option, none, some}
+use Rattle.std.proofs.Math.Option as Math
+use Rattle.std.proofs.Math.Option.{none, some}
+use Rattle.std.specs.Option.{MatchOption}
+use Rattle.std.proofs.lemmas.Option.{none-some, same_Some}
 use lib.ListN.{length, get_or, set, drop, replicate, length-set, length-replicate}
 use lib.Seq.{get_or-set_same, get_or-set_other}
 use lib.Dec.{ltb}
@@ -31,16 +39,18 @@ use lib.IntN.{ℤ, pos, negsuc, ◌-ℤ◌}
 use borrow.Author.Tests.{lt-ltb, le-ltb, eqb-true, eq-eqb, ne_eqb, not-true}
 use Rattle.house.specs.declared.Refusal.{Refusal}
 use Rattle.house.specs.declared.Refusal.TheVariants.{BothBackward}
+use Rattle.house.specs.Finds.{Finds, found, nowhere}
 use Rattle.house.specs.Numbers.{entries}
 use Rattle.house.specs.Refusals.{number, Before, lower, sooner, nearer, First, Clear}
 use Rattle.house.proofs.RefusalLaws.{before_number}
 use Rattle.graph.proofs.Sums.{get_d_repeat}
-use Rattle.routes.specs.Routes.{GoodRoute, Good, FirstAt}
-use Rattle.routes.specs.Rules.{value, Values}
+use Rattle.routes.specs.Routes.{GoodRoute, Good}
+use Rattle.routes.specs.declared.rule.Change.TheVariants.{Switch}
+use Rattle.routes.specs.Rules.{change_of, value, Values}
 use Rattle.routes.specs.Jumps.{position, first_on, meeting, jump, has_jump, Ranged}
 use Rattle.routes.specs.Walk.{State}
 use Rattle.routes.proofs.PairLaws.{judge_low}
-use Rattle.routes.proofs.RuleLaws.{get_d_default, value_destination, good_swap}
+use Rattle.routes.proofs.RuleLaws.{value_destination, good_swap}
 use Rattle.routes.proofs.JumpLaws.{
   position_le,
   position_at,
@@ -58,6 +68,7 @@ use Rattle.routes.proofs.JumpLaws.{
   difference,
   jump_range,
 }
+use Rattle.plans.specs.declared.Given.{Given}
 use Rattle.plans.specs.Plan.{together, some_round, switched}
 use Rattle.plans.specs.TwoBetween.{positive, negative, forwards, backwards, both_back, quick_rounds}
 use Rattle.plans.specs.Replies.{
@@ -73,82 +84,83 @@ use Rattle.plans.specs.Replies.{
   refused,
   given,
 }
-use Rattle.plans.specs.declared.plan.Planned.TheVariants.{Given, Refused}
-use Rattle.plans.specs.Working.{code_at, coded, Sought, Room, Added, Wrote}
+use Rattle.plans.specs.Working.{code_of, code_at, coded, Sought, Room, Added, Wrote}
 use Rattle.plans.specs.QuickParts.{Places, Forward, signed, Back, four_rounds}
 use Rattle.plans.proofs.IdLists.{clash}
 use Rattle.plans.proofs.NodeLaws.{value_on, on_below, switch_values}
+use Rattle.plans.proofs.SeekLaws.{code_apart as one_code}
 use Rattle.plans.proofs.WriteLaws.{added_all}
 use Rattle.plans.proofs.PlanLaws.{Stood, stood_room, stood_more, coded_high, install_at, remove_at, switch_at}
 
 -- ---- positions
 
-pub places_begins : (l : List ℕ) → Places l (replicate 512 512) 0
+pub places_begins : (l : List ℕ) → Places l (replicate 512 None) 0
 places_begins l =
     record {
-      size = length-replicate {A = ℕ} 512 512;
+      size = length-replicate {A = Option ℕ} 512 None;
       at = λ v h. absurd (omega arith);
-      off = λ v h k. repeat_at v h;
+      off = λ v h. get_d_repeat {A = Option ℕ} 512 v None;
     }
-  where
-    all : List ℕ
-    all = replicate 512 512
-
-    repeat_at : (v : ℕ) → v < 512 → ◌≡◌ {A = ℕ} (get_or all v 0) 512
-    repeat_at v h =
-        get_d_default all v 0 512 (omega (arith, length-replicate {A = ℕ} 512 512)) ∙ get_d_repeat {A = ℕ} 512 v 512
 
 -- a node that stands at index i is the id there
 at_index : (l : List ℕ) (i v : ℕ) → i < length l → position l v ≡ i → v ≡ get_or l i 0
 at_index l i v h e = sym (rw e at (position_at l v (omega arith)))
 
 pub places_more :
-    {l t : List ℕ} {i v : ℕ}
+    {l : List ℕ} {t : List (Option ℕ)} {i v : ℕ}
     → GoodRoute l
     → Places l t i
     → i < length l
     → v ≡ get_or l i 0
-    → Places l (set t v i) (i + 1)
+    → Places l (set t v (Some i)) (i + 1)
 places_more {l} {t} {i} {v} g s h e =
     record {
-      size = length-set t v i ∙ s.size;
+      size = length-set t v (Some i) ∙ s.size;
       at = λ u k. here u k (ℕ_discrete u v);
-      off = λ u k j. get_or-set_other t v u i 0 (λ q. omega (arith, stands, ap (position l) q)) ∙ s.off u k (omega arith);
+      off = λ u k. get_or-set_other t v u (Some i) None (λ q. omega (arith, stands, ap (position l) q)) ∙ s.off u (omega arith);
     }
   where
     stands : position l v ≡ i
     stands = rw e (position_index g i h)
 
-    here : (u : ℕ) → position l u < i + 1 → Dec (u ≡ v) → get_or (set t v i) u 0 ≡ position l u
-    here u k (yes q) = rw (q, stands) (get_or-set_same t v i 0 (omega (arith, s.size, g.ids i h)))
+    here : (u : ℕ) → position l u < i + 1 → Dec (u ≡ v) → get_or (set t v (Some i)) u None ≡ Some (position l u)
+    here u k (yes q) = rw (q, stands) (get_or-set_same t v (Some i) None (omega (arith, s.size, g.ids i h)))
     here u k (no q) =
         let n : position l u ≡ i → ⊥ = λ z. q (at_index l i u h z ∙ sym e) in
-        get_or-set_other t v u i 0 q ∙ s.at u (omega arith)
+        get_or-set_other t v u (Some i) None q ∙ s.at u (omega arith)
 
-module _ {l t : List ℕ} {v : ℕ} (g : GoodRoute l) (s : Places l t (length l)) (h : v < 512) where
-  pub places_off : get_or t v 0 ≡ 512 → length l ≤ position l v
+module _ {l : List ℕ} {t : List (Option ℕ)} (s : Places l t (length l)) (v : ℕ) where
+  pub places_off : get_or t v None ≡ None → length l ≤ position l v
   places_off e = go (dec_lt (position l v) (length l))
     where
       go : Dec (position l v < length l) → length l ≤ position l v
-      go (yes k) = absurd (omega (arith, s.at v k, g.most))
+      go (yes k) = absurd (none-some (position l v) (sym e ∙ s.at v k))
       go (no k) = omega arith
 
-  pub places_on : (get_or t v 0 ≡ 512 → ⊥) → position l v < length l
-  places_on n = go (dec_lt (position l v) (length l))
+  pub places_on : {x : ℕ} → get_or t v None ≡ Some x → (position l v < length l) × (x ≡ position l v)
+  places_on {x} e = go (dec_lt (position l v) (length l))
     where
-      go : Dec (position l v < length l) → position l v < length l
-      go (yes k) = k
-      go (no k) = absurd (n (s.off v h (omega arith)))
+      go : Dec (position l v < length l) → (position l v < length l) × (x ≡ position l v)
+      go (yes k) = (k, same_Some _ _ (sym e ∙ s.at v k))
+      go (no k) = absurd (none-some x (sym (s.off v (omega arith)) ∙ e))
 
 -- ---- the signs of jumps
 
-abbrev pub last_place : List ℕ → Option ℕ → ℕ
-last_place p none = 0
-last_place p (some w) = position p w
+abbrev pub place_of : List ℕ → Math.Option ℕ → Option ℕ
+place_of p none = None
+place_of p (some w) = Some (position p w)
 
-last_le : (p : List ℕ) (w : Option ℕ) → last_place p w ≤ length p
-last_le p none = omega arith
-last_le p (some w) = position_le p w
+abbrev pub stands_before : ℕ → Option ℕ → Bool
+stands_before x None = false
+stands_before x (Some y) = ltb x y
+
+pub before_is :
+    {P : ℕ → Type 0} (x : ℕ) (o : Option ℕ) (r : Bool)
+    → MatchOption o (r ≡ false) P
+    → ((y : ℕ) → P y → r ≡ ltb x y)
+    → r ≡ stands_before x o
+before_is x None r h f = h
+before_is x (Some y) r h f = f y h
 
 pub positive_difference : (a b : ℕ) → positive (some (pos a -ℤ pos b)) ≡ ltb b a
 positive_difference a b =
@@ -166,19 +178,27 @@ jump_some : (p q : List ℕ) (v w : ℕ) → meeting q p v ≡ some w → positi
 unfolding jump
 jump_some p q v w e = rw e (positive_difference (position p w) (position p v))
 
-pub jump_sign : (p q : List ℕ) (v : ℕ) → positive (jump p q v) ≡ ltb (position p v) (last_place p (meeting q p v))
+pub jump_sign : (p q : List ℕ) (v : ℕ) → positive (jump p q v) ≡ stands_before (position p v) (place_of p (meeting q p v))
 jump_sign p q v = go (meeting q p v) refl
   where
-    go : (w : Option ℕ) → meeting q p v ≡ w → positive (jump p q v) ≡ ltb (position p v) (last_place p w)
-    go none e = jump_none p q v e ∙ sym (le-ltb (position p v) 0 (omega arith))
+    go : (w : Math.Option ℕ) → meeting q p v ≡ w → positive (jump p q v) ≡ stands_before (position p v) (place_of p w)
+    go none e = jump_none p q v e
     go (some w) e = jump_some p q v w e
 
-pub record Passing (p q : List ℕ) (m : List Bool) (last i : ℕ) : Type 0 where
+-- a node that is not on p has no jump: it has no sign
+jump_off : (p q : List ℕ) (v : ℕ) → length p ≤ position p v → positive (jump p q v) ≡ false
+jump_off p q v h = jump_sign p q v ∙ go (meeting q p v)
+  where
+    go : (w : Math.Option ℕ) → stands_before (position p v) (place_of p w) ≡ false
+    go none = refl
+    go (some w) = le-ltb (position p v) (position p w) (omega (arith, position_le p w))
+
+pub record Passing (p q : List ℕ) (m : List Bool) (next : Option ℕ) (i : ℕ) : Type 0 where
   pub marks : Forward p q m i
   pub within : i ≤ length q
-  pub met : last ≡ last_place p (first_on p (drop i q))
+  pub met : next ≡ place_of p (first_on p (drop i q))
 
-pub passing_begins : (p q : List ℕ) {i : ℕ} → i ≡ length q → Passing p q (replicate 512 false) 0 i
+pub passing_begins : (p q : List ℕ) {i : ℕ} → i ≡ length q → Passing p q (replicate 512 false) None i
 passing_begins p q {i} e =
     record {
       marks =
@@ -195,9 +215,9 @@ passing_begins p q {i} e =
     }
 
 module _
-    {p q : List ℕ} {m : List Bool} {last i v : ℕ} (j : ℕ)
+    {p q : List ℕ} {m : List Bool} {next : Option ℕ} {i v : ℕ} (j : ℕ)
     (g : GoodRoute q)
-    (s : Passing p q m last i)
+    (s : Passing p q m next i)
     (k : j + 1 ≡ i)
     (e : v ≡ get_or q j 0)
   where
@@ -207,7 +227,7 @@ module _
     stands : position q v ≡ j
     stands = rw e (position_index g j inside)
 
-    sign : positive (jump p q v) ≡ ltb (position p v) last
+    sign : positive (jump p q v) ≡ stands_before (position p v) next
     sign =
         let n : suc (position q v) ≡ i = omega (arith, stands) in
         let f : meeting q p v ≡ first_on p (drop i q) = meeting_is q p v ∙ rw n in
@@ -218,7 +238,7 @@ module _
         let d : position q u ≡ j → ⊥ = λ z. n (at_index q j u inside z ∙ sym e) in
         omega arith
 
-    pub passing_off : length p ≤ position p v → Passing p q m last j
+    pub passing_off : length p ≤ position p v → Passing p q m next j
     passing_off h =
         record {
           marks =
@@ -235,36 +255,42 @@ module _
         }
       where
         go : (u : ℕ) → j ≤ position q u → Dec (u ≡ v) → get_or m u false ≡ positive (jump p q u)
-        go u l (yes z) =
-            rw z
-            (s.marks.before v (omega (arith, stands))
-            ∙ sym (sign ∙ le-ltb (position p v) last (omega (arith, s.met, last_le p (first_on p (drop i q))))))
+        go u l (yes z) = rw z (s.marks.before v (omega (arith, stands)) ∙ sym (jump_off p q v h))
         go u l (no z) = s.marks.at u (others u l z)
 
-    pub passing_on : {x : ℕ} → v < 512 → position p v < length p → x ≡ position p v → Passing p q (set m v (ltb x last)) x j
-    passing_on {x} b h f =
+    pub passing_on :
+        {x : ℕ} {b : Bool}
+        → v < 512
+        → position p v < length p
+        → x ≡ position p v
+        → b ≡ stands_before x next
+        → Passing p q (set m v b) (Some x) j
+    passing_on {x} {b} c h f w =
         record {
           marks =
               record {
-                size = length-set m v (ltb x last) ∙ s.marks.size;
+                size = length-set m v b ∙ s.marks.size;
                 at = λ u l. go u l (ℕ_discrete u v);
                 before =
                     λ u l.
-                    get_or-set_other m v u (ltb x last) false (λ z. omega (arith, stands, ap (position q) z))
+                    get_or-set_other m v u b false (λ z. omega (arith, stands, ap (position q) z))
                     ∙ s.marks.before u (omega arith);
               };
           within = omega arith;
-          met = f ∙ sym (ap (last_place p) (first_on_here p q j inside (rw (sym e) (position_on p v h))) ∙ rw (sym e) refl);
+          met =
+              ap (λ (y : ℕ). Some y) f
+              ∙ sym (ap (place_of p) (first_on_here p q j inside (rw (sym e) (position_on p v h))) ∙ rw (sym e) refl);
         }
       where
-        go : (u : ℕ) → j ≤ position q u → Dec (u ≡ v) → get_or (set m v (ltb x last)) u false ≡ positive (jump p q u)
+        go : (u : ℕ) → j ≤ position q u → Dec (u ≡ v) → get_or (set m v b) u false ≡ positive (jump p q u)
         go u l (yes z) =
             rw z
-            (get_or-set_same m v (ltb x last) false (omega (arith, s.marks.size))
-            ∙ sym (sign ∙ ap (λ (y : ℕ). ltb y last) (sym f)))
-        go u l (no z) = get_or-set_other m v u (ltb x last) false z ∙ s.marks.at u (others u l z)
+            (get_or-set_same m v b false (omega (arith, s.marks.size))
+            ∙ w
+            ∙ sym (sign ∙ ap (λ (y : ℕ). stands_before y next) (sym f)))
+        go u l (no z) = get_or-set_other m v u b false z ∙ s.marks.at u (others u l z)
 
-pub passed : {p q : List ℕ} {m : List Bool} {last i : ℕ} → Passing p q m last i → i ≤ 0 → Forward p q m 0
+pub passed : {p q : List ℕ} {m : List Bool} {next : Option ℕ} {i : ℕ} → Passing p q m next i → i ≤ 0 → Forward p q m 0
 passed {i = i} s h = let e : i ≡ 0 = omega arith in rw e at s.marks
 
 -- ---- the four rounds
@@ -273,13 +299,57 @@ beq_true : (t : Bool) → beq t true ≡ t
 beq_true true = refl
 beq_true false = refl
 
+beq_self : (t : Bool) → beq t t ≡ true
+beq_self true = refl
+beq_self false = refl
+
+beq_other : (s t : Bool) → (s ≡ t → ⊥) → beq s t ≡ false
+beq_other true true n = absurd (n refl)
+beq_other true false n = refl
+beq_other false true n = refl
+beq_other false false n = absurd (n refl)
+
 beq_false : (t : Bool) → beq t false ≡ not t
 beq_false true = refl
 beq_false false = refl
 
+pub signed_told :
+    (a b : List ℕ) (v : ℕ) (m : List Bool) (x t : Bool)
+    → (t ≡ true → (change_of (get_or a v 512) (get_or b v 512) ≡ Switch) × (get_or m v false ≡ x))
+    → (t ≡ false → change_of (get_or a v 512) (get_or b v 512) ≡ Switch → get_or m v false ≡ x → ⊥)
+    → signed a b m x v ≡ t
+signed_told a b v m x true y n = rw (eq-eqb (code_at a b v) 3 (ap code_of (y refl).0), (y refl).1) (beq_self x)
+signed_told a b v m x false y n = go (coded a b 3 v) refl
+  where
+    go : (s : Bool) → coded a b 3 v ≡ s → (s && beq (get_or m v false) x) ≡ false
+    go false e = refl
+    go true e = beq_other (get_or m v false) x (n refl (one_code (eqb-true (code_at a b v) 3 e)))
+
 both : (s t : Bool) → (s && t) ≡ true → (s ≡ true) × (t ≡ true)
 both true t e = (refl, e)
 both false t e = clash e refl
+
+abbrev pub One : List ℕ → List ℕ → List ℕ → List ℕ → List ℕ → List ℕ → List ℕ → Given → Type 0
+One a b ids sizes c ids' sizes' g = Stood (some_round (coded a b 1)) (coded a b 1) ids sizes c ids' sizes' g.rounds g.count
+
+abbrev pub Two : List ℕ → List ℕ → List Bool → List ℕ → List ℕ → List ℕ → List ℕ → List ℕ → Given → Type 0
+Two a b m ids sizes c ids' sizes' g =
+    Stood (some_round (coded a b 1) ++ some_round (signed a b m true)) (together (coded a b 1) (signed a b m true)) ids sizes c ids' sizes'
+    g.rounds
+    g.count
+
+abbrev pub Three : List ℕ → List ℕ → List Bool → List ℕ → List ℕ → List ℕ → List ℕ → List ℕ → Given → Type 0
+Three a b m ids sizes c ids' sizes' g =
+    Stood
+    ((some_round (coded a b 1) ++ some_round (signed a b m true)) ++ some_round (signed a b m false))
+    (together (together (coded a b 1) (signed a b m true)) (signed a b m false))
+    ids
+    sizes
+    c
+    ids'
+    sizes'
+    g.rounds
+    g.count
 
 module _ (a b : List ℕ) (m : List Bool) (la : length a ≡ 512) (lb : length b ≡ 512) where
   code_apart : (w u v : ℕ) → (w ≡ u → ⊥) → coded a b w v ≡ true → coded a b u v ≡ false
@@ -404,7 +474,7 @@ module _ {o n a b : List ℕ} {x y : List Bool} (k : Marks o n a b x y) where
   pub back_both : {v : ℕ} → Back a b x y v → both_back o n v ≡ true
   unfolding both_back
   back_both {v} r =
-      let e : switched o n v ≡ true = sym (switch_is v) ∙ eq-eqb (code_at a b v) 3 r.switch in
+      let e : switched o n v ≡ true = sym (switch_is v) ∙ eq-eqb (code_at a b v) 3 (ap code_of r.switch) in
       rw (e, old_negative v e, new_negative v e, r.not_first, r.not_second)
 
   pub both_back_known : {v : ℕ} → both_back o n v ≡ true → Back a b x y v
@@ -413,7 +483,7 @@ module _ {o n a b : List ℕ} {x y : List Bool} (k : Marks o n a b x y) where
       let f = both (switched o n v) (negative (jump o n v) && negative (jump n o v)) e in
       let h = both (negative (jump o n v)) (negative (jump n o v)) f.1 in
       record {
-        switch = eqb-true (code_at a b v) 3 (switch_is v ∙ f.0);
+        switch = one_code (eqb-true (code_at a b v) 3 (switch_is v ∙ f.0));
         not_first = not-true (get_or x v false) (sym (old_negative v f.0) ∙ h.0);
         not_second = not-true (get_or y v false) (sym (new_negative v f.0) ∙ h.1);
       }
@@ -451,7 +521,7 @@ plan_low (judged j) = omega (arith, judge_low j)
 plan_low (mode_over h) = omega arith
 
 module _ {old new ids sizes : List ℕ} {mode : ℕ} where
-  pub quick_refused : {r : Refusal} → First (PlanFault old new mode ids sizes) r → Quicks old new mode ids sizes (Refused r) ids sizes
+  pub quick_refused : {r : Refusal} → First (PlanFault old new mode ids sizes) r → Quicks old new mode ids sizes (Err r) ids sizes
   quick_refused {r} f = refused (record { applies = planner f.applies; lowest = least }) refl refl
     where
       least : (q : Refusal) → QuickFault old new mode ids sizes q → Before q r → ⊥
@@ -459,33 +529,31 @@ module _ {old new ids sizes : List ℕ} {mode : ℕ} where
       least q (both_backward e) b = omega (arith, plan_low f.applies, before_number b)
 
   module _
-      {a b : List ℕ} {x y : List Bool} {r : ℕ}
+      {a b : List ℕ} {x y : List Bool}
       (c : Clear (PlanFault old new mode ids sizes))
       (k : Marks (entries old) (entries new) a b x y)
-      (f : FirstAt (Back a b x y) 512 r)
     where
-      pub quick_back : r < 512 → Quicks old new mode ids sizes (Refused (BothBackward r)) ids sizes
-      quick_back h =
-          refused (record { applies = both_backward (back_both k (f.found h)); lowest = least }) refl refl
+      pub quick_back : {r : ℕ} → Finds (Back a b x y) 512 (Some r) → Quicks old new mode ids sizes (Err (BothBackward r)) ids sizes
+      quick_back {r} (found h p f) = refused (record { applies = both_backward (back_both k p); lowest = least }) refl refl
         where
           nearest : {u : ℕ} → both_back (entries old) (entries new) u ≡ true → Before (BothBackward u) (BothBackward r) → ⊥
           nearest e (lower l) = omega arith
           nearest e (sooner n l) = omega arith
-          nearest {u} e (nearer n s l) = f.none_before u l (both_back_known k e)
+          nearest {u} e (nearer n s l) = f u l (both_back_known k e)
 
           least : (q : Refusal) → QuickFault old new mode ids sizes q → Before q (BothBackward r) → ⊥
           least q (planner p) l = c.clear q p
           least q (both_backward e) l = nearest e l
 
       pub quick_given :
-          {ids' sizes' : List ℕ} {t u : ℕ}
-          → 512 ≤ r
-          → Added (four_rounds a b x) ids sizes 0 0 ids' sizes' t u
-          → Quicks old new mode ids sizes (Given t u) ids' sizes'
-      quick_given h w =
+          {g : Given} {ids' sizes' : List ℕ}
+          → Finds (Back a b x y) 512 None
+          → Added (four_rounds a b x) ids sizes 0 0 ids' sizes' g.rounds g.count
+          → Quicks old new mode ids sizes (Ok g) ids' sizes'
+      quick_given (nowhere f) w =
           let z = added_all (rw (four_quick k) at w) in
-          given (record { clear = none }) refl z.0 z.1 z.2 z.3
+          given (record { clear = clear }) refl z.0 z.1 z.2 z.3
         where
-          none : (q : Refusal) → QuickFault old new mode ids sizes q → ⊥
-          none q (planner p) = c.clear q p
-          none q (both_backward {v} e) = f.none_before v (omega (arith, both_below k v e)) (both_back_known k e)
+          clear : (q : Refusal) → QuickFault old new mode ids sizes q → ⊥
+          clear q (planner p) = c.clear q p
+          clear q (both_backward {v} e) = f v (both_below k v e) (both_back_known k e)

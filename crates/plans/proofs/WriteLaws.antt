@@ -12,7 +12,7 @@
 --   tally_more           == a tally grows by one with a number that is added
 --   entering_begins      == at first no node is entered
 --   entering_room        == while a node of the present round is left there is room for it
---   entering_turn        == one node more
+--   entering_passes, entering_takes == one node more, that is not of the present round or is
 --   round_fits           == a round has at most 512 nodes
 --   wrote_none, wrote_some == when all nodes are entered the round is written: with none nothing is to be written, with some
 --                           their number
@@ -34,7 +34,7 @@ use Rattle.routes.specs.Walk.{State}
 use Rattle.routes.proofs.RuleLaws.{tally_cong, tally_most}
 use Rattle.plans.specs.Plan.{rising_below, rising, some_of, some_round, ids_of, sizes_of}
 use Rattle.plans.specs.Replies.{overlaid}
-use Rattle.plans.specs.Working.{placed, present, Appended, Added, Room, Entered, passed, entered, Entering, Wrote}
+use Rattle.plans.specs.Working.{placed, present, Appended, Added, Room, Entering, Wrote}
 use Rattle.plans.proofs.IdLists.{by_bool}
 use Rattle.plans.proofs.PlanSchedule.{length_sizes}
 
@@ -215,12 +215,10 @@ placed_more c v l h k =
     (eq-eqb (get_or (set c v 1) v 0) 1 (get_or-set_same c v 1 0 (omega arith)))
     (λ u n. rw (get_or-set_other c v u 1 0 n))
 
-room_left : (c : List ℕ) (m v : ℕ) → length c ≡ 512 → m ≡ tally 512 (placed c) → v < 512 → 1 < get_or c v 0 → m < 512
-room_left c m v l e h k = omega (arith, placed_more c v l h k, tally_most 512 (placed (set c v 1)))
-
 pub entering_room :
     {c₀ ids₀ c ids : List ℕ} {m₀ m v : ℕ} → Entering c₀ ids₀ m₀ c ids m v → v < 512 → 1 < get_or c v 0 → m < 512
-entering_room {c = c} {m = m} {v} s h k = room_left c m v s.choices s.counted h k
+entering_room {c = c} {v = v} s h k =
+    omega (arith, s.counted, placed_more c v s.choices h k, tally_most 512 (placed (set c v 1)))
 
 rising_less : (k : ℕ) (R : State) → R k ≡ false → rising_below (k + 1) R ≡ rising_below k R
 unfolding rising_below
@@ -230,50 +228,49 @@ rising_more : (k : ℕ) (R : State) → R k ≡ true → rising_below (k + 1) R 
 unfolding rising_below
 rising_more k R e = rw (add-one k, e)
 
-pub entering_turn :
-    {c₀ ids₀ c ids c' ids' : List ℕ} {m₀ m v m' : ℕ}
-    → Entering c₀ ids₀ m₀ c ids m v
-    → v < 512
-    → Entered c ids m v c' ids' m'
-    → Entering c₀ ids₀ m₀ c' ids' m' (v + 1)
-entering_turn {c₀} {ids₀} {c} {ids} {m₀ = m₀} {m} {v} s h (passed k) =
-    record {
-      choices = s.choices;
-      ids_fit = s.ids_fit;
-      counted = s.counted;
-      below = λ u l. at u l (ℕ_discrete u v);
-      past = λ u l. s.past u (omega arith);
-      appended = rw (rising_less v (present c₀) none) s.appended;
-      count = rw (rising_less v (present c₀) none) s.count;
-    }
-  where
-    none : present c₀ v ≡ false
-    none = le-ltb 1 (get_or c₀ v 0) (omega (arith, s.past v (omega arith)))
+module _ {c₀ ids₀ c ids : List ℕ} {m₀ m v : ℕ} (s : Entering c₀ ids₀ m₀ c ids m v) (h : v < 512) where
+  pub entering_passes : get_or c v 0 ≤ 1 → Entering c₀ ids₀ m₀ c ids m (v + 1)
+  entering_passes k =
+      record {
+        choices = s.choices;
+        ids_fit = s.ids_fit;
+        counted = s.counted;
+        below = λ u l. at u l (ℕ_discrete u v);
+        past = λ u l. s.past u (omega arith);
+        appended = rw (rising_less v (present c₀) none) s.appended;
+        count = rw (rising_less v (present c₀) none) s.count;
+      }
+    where
+      none : present c₀ v ≡ false
+      none = le-ltb 1 (get_or c₀ v 0) (omega (arith, s.past v (omega arith)))
 
-    at : (u : ℕ) → u < v + 1 → Dec (u ≡ v) → get_or c u 0 ≡ cond (present c₀ u) 1 (get_or c₀ u 0)
-    at u l (yes e) = rw (e, none) (s.past v (omega arith))
-    at u l (no e) = s.below u (omega arith)
-entering_turn {c₀} {ids₀} {c} {ids} {m₀ = m₀} {m} {v} s h (entered k e) =
-    record {
-      choices = length-set c v 1 ∙ s.choices;
-      ids_fit = omega (arith, s.ids_fit, ap length e, length_put_number 2 ids m v);
-      counted = omega (arith, s.counted, placed_more c v s.choices h k);
-      below = λ u l. at u l (ℕ_discrete u v);
-      past = λ u l. get_or-set_other c v u 1 0 (λ z. omega arith) ∙ s.past u (omega arith);
-      appended = rw (rising_more v (present c₀) one, e) (appended_joins m s.appended s.count (appended_one m v ids room));
-      count =
-          omega (arith, s.count, ap length (rising_more v (present c₀) one), length-append (rising_below v (present c₀)) (v ∷ []));
-    }
-  where
-    one : present c₀ v ≡ true
-    one = lt-ltb 1 (get_or c₀ v 0) (omega (arith, s.past v (omega arith)))
+      at : (u : ℕ) → u < v + 1 → Dec (u ≡ v) → get_or c u 0 ≡ cond (present c₀ u) 1 (get_or c₀ u 0)
+      at u l (yes e) = rw (e, none) (s.past v (omega arith))
+      at u l (no e) = s.below u (omega arith)
 
-    room : 2 * m + 2 ≤ length ids
-    room = omega (arith, s.ids_fit, room_left c m v s.choices s.counted h k)
+  pub entering_takes :
+      {ids' : List ℕ} → 1 < get_or c v 0 → ids' ≡ put_number 2 ids m v → Entering c₀ ids₀ m₀ (set c v 1) ids' (m + 1) (v + 1)
+  entering_takes k e =
+      record {
+        choices = length-set c v 1 ∙ s.choices;
+        ids_fit = omega (arith, s.ids_fit, ap length e, length_put_number 2 ids m v);
+        counted = omega (arith, s.counted, placed_more c v s.choices h k);
+        below = λ u l. at u l (ℕ_discrete u v);
+        past = λ u l. get_or-set_other c v u 1 0 (λ z. omega arith) ∙ s.past u (omega arith);
+        appended = rw (rising_more v (present c₀) one, e) (appended_joins m s.appended s.count (appended_one m v ids room));
+        count =
+            omega (arith, s.count, ap length (rising_more v (present c₀) one), length-append (rising_below v (present c₀)) (v ∷ []));
+      }
+    where
+      one : present c₀ v ≡ true
+      one = lt-ltb 1 (get_or c₀ v 0) (omega (arith, s.past v (omega arith)))
 
-    at : (u : ℕ) → u < v + 1 → Dec (u ≡ v) → get_or (set c v 1) u 0 ≡ cond (present c₀ u) 1 (get_or c₀ u 0)
-    at u l (yes q) = rw (q, one) (get_or-set_same c v 1 0 (omega (arith, s.choices)))
-    at u l (no q) = get_or-set_other c v u 1 0 q ∙ s.below u (omega arith)
+      room : 2 * m + 2 ≤ length ids
+      room = omega (arith, s.ids_fit, entering_room s h k)
+
+      at : (u : ℕ) → u < v + 1 → Dec (u ≡ v) → get_or (set c v 1) u 0 ≡ cond (present c₀ u) 1 (get_or c₀ u 0)
+      at u l (yes q) = rw (q, one) (get_or-set_same c v 1 0 (omega (arith, s.choices)))
+      at u l (no q) = get_or-set_other c v u 1 0 q ∙ s.below u (omega arith)
 
 -- ---- a whole round
 
@@ -336,12 +333,6 @@ module _
               };
         }
 
-    pub wrote_none : m' ≡ m → Wrote c ids sizes k m c' ids' sizes k m'
-    unfolding sizes_of
-    wrote_none e =
-        let z : some_round (present c) ≡ [] = none_some (present c) (omega (arith, count_round)) in
-        wrote refl (omega (arith, r.fewer)) (rw z (appended_none k sizes)) (rw z (omega arith))
-
     pub wrote_some :
         {sizes' : List ℕ} → (m' ≡ m → ⊥) → sizes' ≡ put_number 2 sizes k (m' - m) → Wrote c ids sizes k m c' ids' sizes' (k + 1) m'
     unfolding sizes_of
@@ -354,3 +345,13 @@ module _
 
     pub round_fits : m' - m ≤ 512
     round_fits = omega (arith, s.counted, tally_most 512 (placed c'))
+
+pub wrote_none :
+    {c ids sizes c' ids' : List ℕ} {k m : ℕ}
+    → Room c ids sizes k m
+    → Entering c ids m c' ids' m 512
+    → Wrote c ids sizes k m c' ids' sizes k m
+unfolding sizes_of
+wrote_none {c} {sizes = sizes} {k = k} r s =
+    let z : some_round (present c) ≡ [] = none_some (present c) (omega (arith, count_round r s)) in
+    wrote r s refl r.fewer (rw z (appended_none k sizes)) (rw z (omega arith))

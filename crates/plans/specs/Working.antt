@@ -14,21 +14,21 @@
 --   Tried mode a b c s v r m == r tells whether v may join the present round
 --   Tries mode a b s vs c c' W == going through vs, each joins if it may; c becomes c', and W wait
 --   Lined c left i many == the nodes from index i to before `many` are free, and no two of them are the same
---   Settled .. c left i kept c' m left' kept' == the node at index i joins, or it is kept behind the first `kept`
 --   Pass .. c left i kept == going through the nodes as far as index i; the first `kept` wait
 --   Passed .. c left many c' left' kept == the same, all the way
---   Fresh m k f i       == the marks f hold the nodes below i that k marks and m does not
---   Any f r             == r tells whether f has a mark
+--   Fresh m k f         == the marks f hold the nodes that k marks and m does not
 --   Closing a b c m k r == r tells whether a closed path lies among the nodes that k marks and m does not
---   Merged m k m' i     == the marks m' are those of m, and those of k below i
+--   Merged m k m'       == the marks m' are those of m and those of k
 --
 --   code_of k           == what happens to a rule, as a number: 1 install, 2 remove, 3 switch, 0 none of these
 --   code_at a b v       == the same of the node v
 --   coded a b w         == the nodes with the code w
+--   FitIs old new mode ids sizes r == r is the refusal that both planners give, or else the mode
+--   SoughtBy Q c c' i   == the nodes below i of which Q tells true are of the present round in c'; all others are as in c
 --   Sought f c c' i     == the nodes of f below i are of the present round in c'; all others are as in c
 --   Backward a b n i left many == the first `many` are the switches of n from index i on, backward
 --
---   Setting o n a b s  == o and n are a good pair, a and b their tables of next values, s is the source
+--   SettingOf o n z    == o and n are a good pair, z holds their tables of next values and the source
 --   Ahead o n c left many == all installs are placed, and nothing else; the first `many` are all switches
 --   Middled mode o n ids sizes k m c' ids' sizes' k' m' == the rounds of the switches are written, and are placed
 --   Written mode o n ids sizes ids' sizes' k m == all k rounds of the plan are written, with their m ids
@@ -36,21 +36,24 @@
 --   Appended k ys b b' == where b has k entries written at its front, b' has those and ys
 --   Added Rs ids sizes k m ids' sizes' k' m' == the rounds Rs are written behind k rounds and m ids
 --   Room c ids sizes k m == there is room for each node that is not placed: m ids are placed, in at most m rounds
---   Entered c ids m v c' ids' m' == v is written behind m ids and placed, if it is of the present round
---   Entering c0 ids0 m0 c ids m v == the same of each node below v
+--   Entering c0 ids0 m0 c ids m v == each node below v is written behind m0 ids and placed, if it is of the present round
 --   Wrote c ids sizes k m c' ids' sizes' k' m' == the present round is written, if it has a node, and is placed
 use Rattle.std.specs.Prelude.{ℕ, zero, suc, ◌+◌, ◌<◌, ◌≤◌, ◌≡◌, Bool, true, false, not, cond, ◌&&◌}
-use Rattle.std.specs.Prelude.{◌||◌, List, [], ◌∷◌, ◌++◌, reverse, length, get_or, set, take, drop, eqb, ltb}
-use Rattle.house.specs.Numbers.{put_number}
+use Rattle.std.specs.Prelude.{◌||◌, List, [], ◌∷◌, ◌++◌, reverse, length, get_or, set, take, drop, eqb, ltb, Result, Ok, Err}
+use Rattle.house.specs.declared.Refusal.{Refusal}
+use Rattle.house.specs.Refusals.{First, Clear}
+use Rattle.rounds.specs.declared.mode.Mode.{Mode}
+use Rattle.rounds.specs.declared.setting.Setting.{Setting}
+use Rattle.rounds.specs.Mode.{mode_no}
 use Rattle.graph.specs.Graph.{Choice, old, new, either, Path, Around}
-use Rattle.graph.specs.Search.{Steps, Reached, Marked, Cyclic}
+use Rattle.graph.specs.Search.{Steps, Reached, Cyclic}
 use Rattle.routes.specs.declared.rule.Change.{Change}
 use Rattle.routes.specs.declared.rule.Change.TheVariants.{Kept, Install, Remove, Switch}
 use Rattle.routes.specs.Routes.{source, Good}
 use Rattle.routes.specs.Rules.{change_of, tally, Values}
 use Rattle.routes.specs.Walk.{State}
 use Rattle.plans.specs.Plan.{together, installs, removes, keep, switches, Middle, rising_below, some_round, PlanRounds, ids_of, sizes_of}
-use Rattle.plans.specs.Replies.{overlaid}
+use Rattle.plans.specs.Replies.{PlanFault, overlaid}
 
 abbrev pub round_choice : State → State → ℕ → Choice
 round_choice P R v = cond (P v) new (cond (R v) either old)
@@ -118,44 +121,24 @@ pub record Pass (mode : ℕ) (a b : List ℕ) (s : ℕ) (c₀ left₀ : List ℕ
       → Tries mode a b s (drop i (take many left₀)) c c' W
       → Tries mode a b s (take many left₀) c₀ c' (take kept left ++ W)
 
-pub data Settled (mode : ℕ) (a b : List ℕ) (s : ℕ) (c left : List ℕ) (i kept : ℕ) : List ℕ → List Bool → List ℕ → ℕ → Type 0 where
-  joined :
-      {v : ℕ} {m : List Bool}
-      → v ≡ get_or left i 0
-      → Fits mode a b (set c v 2) s
-      → Seen mode a b (set c v 2) s m
-      → Settled mode a b s c left i kept (set c v 2) m left kept
-  kept_back :
-      {v : ℕ} {m : List Bool}
-      → v ≡ get_or left i 0
-      → (Fits mode a b (set c v 2) s → ⊥)
-      → Seen mode a b c s m
-      → Settled mode a b s c left i kept c m (set left kept v) (kept + 1)
-
 pub record Passed (mode : ℕ) (a b : List ℕ) (s : ℕ) (c left : List ℕ) (many : ℕ) (c' left' : List ℕ) (kept : ℕ) : Type 0 where
   pub size : length c' ≡ 512
   pub places : length left' ≡ 256
   pub fewer : kept ≤ many
   pub tried : Tries mode a b s (take many left) c c' (take kept left')
 
-pub record Fresh (m k f : List Bool) (i : ℕ) : Type 0 where
+pub record Fresh (m k f : List Bool) : Type 0 where
   pub size : length f ≡ 512
-  pub at : (v : ℕ) → v < i → get_or f v false ≡ (get_or k v false && not (get_or m v false))
-  pub past : (v : ℕ) → i ≤ v → get_or f v false ≡ false
-
-abbrev pub Any : List Bool → Bool → Type 0
-Any f true = (v : ℕ) × Marked f v
-Any f false = (v : ℕ) → Marked f v → ⊥
+  pub at : (v : ℕ) → v < 512 → get_or f v false ≡ (get_or k v false && not (get_or m v false))
 
 pub record Closing (a b c : List ℕ) (m k : List Bool) (r : Bool) : Type 0 where
   pub among : List Bool
-  pub fresh : Fresh m k among 512
+  pub fresh : Fresh m k among
   pub closed : Cyclic a b c among r
 
-pub record Merged (m k m' : List Bool) (i : ℕ) : Type 0 where
+pub record Merged (m k m' : List Bool) : Type 0 where
   pub size : length m' ≡ 514
-  pub at : (v : ℕ) → v < i → get_or m' v false ≡ (get_or m v false || get_or k v false)
-  pub past : (v : ℕ) → i ≤ v → get_or m' v false ≡ get_or m v false
+  pub at : (v : ℕ) → v < 514 → get_or m' v false ≡ (get_or m v false || get_or k v false)
 
 -- ---- the rounds of installs and removes, and the switches
 
@@ -174,6 +157,15 @@ coded a b w v = eqb (code_at a b v) w
 pub record Sought (f : State) (c c' : List ℕ) (i : ℕ) : Type 0 where
   pub size : length c' ≡ 512
   pub at : (v : ℕ) → v < i → get_or c' v 0 ≡ cond (f v) 2 (get_or c v 0)
+  pub past : (v : ℕ) → i ≤ v → get_or c' v 0 ≡ get_or c v 0
+
+pub data FitIs (old new : List ℕ) (mode : ℕ) (ids sizes : List ℕ) : Result Mode Refusal → Type 0 where
+  fits : {m : Mode} → Clear (PlanFault old new mode ids sizes) → mode ≡ mode_no m → FitIs old new mode ids sizes (Ok m)
+  faulty : {r : Refusal} → First (PlanFault old new mode ids sizes) r → FitIs old new mode ids sizes (Err r)
+
+pub record SoughtBy (Q : ℕ → Bool → Type 0) (c c' : List ℕ) (i : ℕ) : Type 0 where
+  pub size : length c' ≡ 512
+  pub at : (v : ℕ) → v < i → (b : Bool) × Q v b × (get_or c' v 0 ≡ cond b 2 (get_or c v 0))
   pub past : (v : ℕ) → i ≤ v → get_or c' v 0 ≡ get_or c v 0
 
 pub record Backward (a b n : List ℕ) (i : ℕ) (left : List ℕ) (many : ℕ) : Type 0 where
@@ -200,10 +192,6 @@ pub record Room (c ids sizes : List ℕ) (k m : ℕ) : Type 0 where
   pub counted : m ≡ tally 512 (placed c)
   pub fewer : k ≤ m
 
-pub data Entered (c ids : List ℕ) (m v : ℕ) : List ℕ → List ℕ → ℕ → Type 0 where
-  passed : get_or c v 0 ≤ 1 → Entered c ids m v c ids m
-  entered : 1 < get_or c v 0 → {ids' : List ℕ} → ids' ≡ put_number 2 ids m v → Entered c ids m v (set c v 1) ids' (m + 1)
-
 pub record Entering (c₀ ids₀ : List ℕ) (m₀ : ℕ) (c ids : List ℕ) (m v : ℕ) : Type 0 where
   pub choices : length c ≡ 512
   pub ids_fit : 1024 ≤ length ids
@@ -221,11 +209,11 @@ pub record Wrote (c ids sizes : List ℕ) (k m : ℕ) (c' ids' sizes' : List ℕ
 
 -- ---- the rounds of switches
 
-pub record Setting (o n a b : List ℕ) (s : ℕ) : Type 0 where
+pub record SettingOf (o n : List ℕ) (z : Setting) : Type 0 where
   pub good : Good o n
-  pub olds : Values o a
-  pub news : Values n b
-  pub start : s ≡ source o
+  pub olds : Values o z.old
+  pub news : Values n z.new
+  pub start : z.source ≡ source o
 
 pub record Ahead (o n c left : List ℕ) (many : ℕ) : Type 0 where
   pub installed : (v : ℕ) → placed c v ≡ installs o n v

@@ -17,6 +17,8 @@
 --   no_exactly           == the check says no exactly when some round has a bad state
 --   not_well_formed      == a list that is not well-formed gets its refusal of 1 or 4 to 14, never a yes
 -- Assumes nothing.
+use Rattle.std.specs.Prelude.{Result, Ok, Err}
+use Rattle.rounds.specs.declared.check.Accepted.{Accepted}
 use Prim.Native.Nat.{ℕ, ◌<◌, ◌≤◌}
 use native.Mathlib.Omega.{arith}
 use mathlib.Core.Path.{◌≡◌, refl, sym, ◌∙◌, ap}
@@ -35,8 +37,6 @@ use Rattle.routes.specs.Walk.{State}
 use Rattle.rounds.specs.Schedule.{round_no}
 use Rattle.rounds.specs.States.{StateOf, Passes, Fault, a_drop, a_loop, Shows, Bad, FirstBad, chosen, Named}
 use Rattle.rounds.specs.Replies.{CheckFault, fault_of, written, Checks, refused, passes, begins_faulty, shows}
-use Rattle.rounds.specs.declared.check.Checked.{Checked}
-use Rattle.rounds.specs.declared.check.Checked.TheVariants.{Accepted, Refused}
 use Rattle.rounds.proofs.NamedLaws.{chosen_state, passes_good}
 
 -- Of the old route o, the new route n, and a schedule with the ids `ids` and the sizes `zs`; `set` is the lent bytes before.
@@ -71,7 +71,7 @@ pub record No (mode : ℕ) (o n ids zs set : List ℕ) (r : Refusal) (after : Li
       ((size subset ≡ 0) × (r ≡ BeginsFaulty round) × (after ≡ set))
       ⊎ ((0 < size subset) × (r ≡ fault_of fault round (size subset)) × (after ≡ written subset set))
 
-accepted_not_refused : {k m : ℕ} {r : Refusal} → Refused r ≡ Accepted k m → ⊥
+accepted_not_refused : {k : Accepted} {r : Refusal} → ◌≡◌ {A = Result Accepted Refusal} (Err r) (Ok k) → ⊥
 accepted_not_refused e = let z : ◌≡◌ {A = ℕ} 0 1 = cc in omega arith
 
 -- the first bad round and the named subset are all that a no says
@@ -108,40 +108,40 @@ module _
     (well_formed : Clear (CheckFault old new mode ids sizes set))
   where
     pub yes_exactly :
-        {a : Checked} {after : List ℕ}
+        {a : Result Accepted Refusal} {after : List ℕ}
         → Checks old new mode ids sizes set a after
-        → ((rounds dues : ℕ) × (a ≡ Accepted rounds dues)) ↔ Passes mode (entries old) (entries new) (entries ids) (entries sizes)
+        → ((k : Accepted) × (a ≡ Ok k)) ↔ Passes mode (entries old) (entries new) (entries ids) (entries sizes)
     yes_exactly {a} {after} reply = (forth reply, back reply)
       where
         forth :
-            {a : Checked}
+            {a : Result Accepted Refusal}
             → Checks old new mode ids sizes set a after
-            → ((rounds dues : ℕ) × (a ≡ Accepted rounds dues))
+            → ((k : Accepted) × (a ≡ Ok k))
             → Passes mode (entries old) (entries new) (entries ids) (entries sizes)
-        forth (refused f e) (k, m, q) = absurd (accepted_not_refused q)
-        forth (passes c p r d e) (k, m, q) = p
-        forth (begins_faulty c b w z e) (k, m, q) = absurd (accepted_not_refused q)
-        forth (shows c b w z r e) (k, m, q) = absurd (accepted_not_refused q)
+        forth (refused f e) (k, q) = absurd (accepted_not_refused q)
+        forth (passes c p r d e) (k, q) = p
+        forth (begins_faulty c b w z e) (k, q) = absurd (accepted_not_refused q)
+        forth (shows c b w z r e) (k, q) = absurd (accepted_not_refused q)
 
         back :
-            {a : Checked}
+            {a : Result Accepted Refusal}
             → Checks old new mode ids sizes set a after
             → Passes mode (entries old) (entries new) (entries ids) (entries sizes)
-            → ((rounds dues : ℕ) × (a ≡ Accepted rounds dues))
+            → ((k : Accepted) × (a ≡ Ok k))
         back (refused f e) p = absurd (first_not_clear f well_formed)
-        back (passes {rounds} {dues} c q r d e) p = (rounds, dues, refl)
+        back (passes {a = k} c q r d e) p = (k, refl)
         back (begins_faulty {t} {f} c b w z e) p = absurd (passes_good p t f b.from_one b.a_round b.bad)
         back (shows {t} {f} c b w z r e) p = absurd (passes_good p t f b.from_one b.a_round b.bad)
 
     pub yes_tells :
-        {rounds dues : ℕ} {after : List ℕ}
-        → Checks old new mode ids sizes set (Accepted rounds dues) after
-        → (rounds ≡ length (entries sizes)) × (dues ≡ tally 512 (due (entries old) (entries new))) × (after ≡ set)
+        {k : Accepted} {after : List ℕ}
+        → Checks old new mode ids sizes set (Ok k) after
+        → (k.rounds ≡ length (entries sizes)) × (k.dues ≡ tally 512 (due (entries old) (entries new))) × (after ≡ set)
     yes_tells (passes c p r d e) = (r, d, e)
 
     pub no_names :
         {r : Refusal} {after : List ℕ}
-        → Checks old new mode ids sizes set (Refused r) after
+        → Checks old new mode ids sizes set (Err r) after
         → No mode (entries old) (entries new) (entries ids) (entries sizes) set r after
     no_names (refused f e) = absurd (first_not_clear f well_formed)
     no_names (begins_faulty c b w z e) = no_of b w refl (inl (z, refl, e))
@@ -149,9 +149,9 @@ module _
         no_of b w (ap site q ∙ site_fault f t (size ws)) (inr (z, q, e))
 
     pub no_exactly :
-        {a : Checked} {after : List ℕ}
+        {a : Result Accepted Refusal} {after : List ℕ}
         → Checks old new mode ids sizes set a after
-        → ((r : Refusal) × (a ≡ Refused r))
+        → ((r : Refusal) × (a ≡ Err r))
         ↔ ((t : ℕ) × (f : Fault) × (0 < t) × (t ≤ length (entries sizes)) × Bad mode (entries old) (entries new) (entries ids) (entries sizes) t f)
     no_exactly {a} {after} reply = (forth reply, back reply)
       where
@@ -159,23 +159,23 @@ module _
         Somewhere =
             (t : ℕ) × (f : Fault) × (0 < t) × (t ≤ length (entries sizes)) × Bad mode (entries old) (entries new) (entries ids) (entries sizes) t f
 
-        forth : {a : Checked} → Checks old new mode ids sizes set a after → ((r : Refusal) × (a ≡ Refused r)) → Somewhere
+        forth : {a : Result Accepted Refusal} → Checks old new mode ids sizes set a after → ((r : Refusal) × (a ≡ Err r)) → Somewhere
         forth (refused f e) q = absurd (first_not_clear f well_formed)
         forth (passes c p r d e) (s, q) = absurd (accepted_not_refused (sym q))
         forth (begins_faulty {t} {f} c b w z e) q = (t, f, b.from_one, b.a_round, b.bad)
         forth (shows {t} {f} c b w z r e) q = (t, f, b.from_one, b.a_round, b.bad)
 
-        back : {a : Checked} → Checks old new mode ids sizes set a after → Somewhere → ((r : Refusal) × (a ≡ Refused r))
+        back : {a : Result Accepted Refusal} → Checks old new mode ids sizes set a after → Somewhere → ((r : Refusal) × (a ≡ Err r))
         back (refused {r} f e) s = (r, refl)
         back (passes c p r d e) (t, f, h, k, b) = absurd (passes_good p t f h k b)
         back (begins_faulty {t} c b w z e) s = (BeginsFaulty t, refl)
         back (shows {r = r} c b w z q e) s = (r, refl)
 
 pub not_well_formed :
-    {old new : List ℕ} {mode : ℕ} {ids sizes set : List ℕ} {a : Checked} {after : List ℕ}
+    {old new : List ℕ} {mode : ℕ} {ids sizes set : List ℕ} {a : Result Accepted Refusal} {after : List ℕ}
     → (Clear (CheckFault old new mode ids sizes set) → ⊥)
     → Checks old new mode ids sizes set a after
-    → (r : Refusal) × (a ≡ Refused r) × First (CheckFault old new mode ids sizes set) r × (after ≡ set)
+    → (r : Refusal) × (a ≡ Err r) × First (CheckFault old new mode ids sizes set) r × (after ≡ set)
 not_well_formed n (refused {r} f e) = (r, refl, f, e)
 not_well_formed n (passes c p r d e) = absurd (n c)
 not_well_formed n (begins_faulty c b w z e) = absurd (n c)

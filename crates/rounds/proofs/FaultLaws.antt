@@ -1,35 +1,34 @@
 -- From the answers of the two searches to the faults that the states of a round show. Assumes nothing.
 --
 --   way_maps         == what tells a fault by the steps R tells it by steps R', where each step of R is one of R'
---   Setting o n a b s == a good pair of routes, the tables of their next values, and the source
 --   possible_leads   == some state that respects the choice cl shows the fault exactly when the tables lead to it
 --   coded_choices    == the choice of a round's states, from its numbers
 --   bad_leads        == a round is bad exactly when the tables lead to the fault by its choice
 --   said_true, said_false == what an answer says
---   Copied m v a     == the first v of the marks m are copied to the marks a of the nodes
---   copied_none, copied_more, copied_alive == copying begins, goes on, and leaves what counts in relaxed mode
 --   alive_all        == in strong mode all nodes count
+--   alive_marked     == in relaxed mode the nodes count that are marked
 --   seen_drop        == the mark of 512 tells a drop
 --   alive_loop       == a closed path within the nodes that count tells a loop
-use Prim.Native.Nat.{ℕ, zero, suc, ◌+◌, ◌<◌, ◌≤◌}
+use Prim.Native.Nat.{ℕ, zero, suc, ◌<◌}
 use native.Mathlib.Omega.{arith}
-use native.Mathlib.Decide.{dec_lt, ℕ_discrete}
+use native.Mathlib.Decide.{dec_lt}
 use mathlib.Core.Path.{◌≡◌, refl, sym, ◌∙◌, ap, subst, fun_ext}
 use mathlib.Core.Bool.{Bool, true, false, cond}
 use mathlib.Core.List.{List}
 use mathlib.Core.Logic.{◌↔◌}
-use lib.ListN.{length, get_or, set, replicate, length-set, length-replicate, get_or-replicate, get_or-eq_default}
-use lib.Seq.{get_or-set_same, get_or-set_other}
+use lib.ListN.{length, get_or, replicate, length-replicate, get_or-replicate, get_or-eq_default}
 use lib.Dec.{eqb, ltb}
+use denote.Param.Members.{Mut}
+use Rattle.std.specs.Array.{IsFromFnResult}
+use Rattle.std.specs.Fn.{Called}
 use Rattle.graph.specs.Graph.{Choice, old, new, either, table, choice_of, choices, Around, Within}
 use Rattle.graph.specs.Search.{Steps, Reached, Marked, Cyclic}
 use Rattle.graph.proofs.Paths.{path_maps, around_maps}
 use Rattle.graph.proofs.Equivalences.{Possible, around_all, around_reached}
-use Rattle.routes.specs.Routes.{source, Good}
-use Rattle.routes.specs.Rules.{Values}
+use Rattle.routes.proofs.RuleLaws.{made_at}
 use Rattle.rounds.specs.Schedule.{round_no}
 use Rattle.rounds.specs.States.{Fault, a_drop, a_loop, Shows, Bad}
-use Rattle.rounds.specs.Working.{Way, Leads, Says, holds, fails, Alive, Coded}
+use Rattle.rounds.specs.Working.{Stands, Way, Leads, Says, holds, fails, Alive, Coded}
 use Rattle.rounds.proofs.Bridge.{RouteStep, Chooses, choice_at, possible_finds, bad_possible, steps_route, route_steps}
 
 true_false : {b : Bool} → b ≡ true → b ≡ false → ⊥
@@ -40,12 +39,6 @@ pub way_maps :
 way_maps a_drop mode s h P = path_maps h P
 way_maps a_loop zero s h (v, A) = (v, around_maps h A)
 way_maps a_loop (suc m) s h (v, P, A) = (v, path_maps h P, around_maps h A)
-
-pub record Setting (o n a b : List ℕ) (s : ℕ) : Type 0 where
-  pub good : Good o n
-  pub olds : Values o a
-  pub news : Values n b
-  pub begins : s ≡ source o
 
 code_choice : (p q r : Bool) → choice_of (cond p 0 (cond q 1 (cond r 2 0))) ≡ cond p old (cond q new (cond r either old))
 code_choice true q r = refl
@@ -58,7 +51,7 @@ coded_choices {ids} {zs} {t} x =
     fun_ext (λ v.
     ap choice_of (x.code v) ∙ code_choice (eqb (round_no ids zs v) 0) (ltb (round_no ids zs v) t) (eqb (round_no ids zs v) t))
 
-module _ {o n a b : List ℕ} {s : ℕ} (z : Setting o n a b s) where
+module _ {o n a b : List ℕ} {s : ℕ} (z : Stands o n a b s) where
   pub possible_leads :
       (f : Fault) (mode : ℕ) (cl : List ℕ) → Possible (choices cl) (Shows f mode o n) ↔ Leads f mode a b cl s
   possible_leads f mode cl = (forth, back)
@@ -112,36 +105,25 @@ pub seen_drop :
 seen_drop mode x true e = holds (record { way = x.marked_is_reached 512 e })
 seen_drop mode x false e = fails (λ l. true_false (x.reached_is_marked 512 (omega arith) l.way) e)
 
--- the first v of the marks m are copied to the marks a of the nodes
-pub record Copied (m : List Bool) (v : ℕ) (a : List Bool) : Type 0 where
-  pub within : v ≤ 512
-  pub nodes : length a ≡ 512
-  pub same : (k : ℕ) → k < v → get_or a k false ≡ get_or m k false
-
-pub copied_none : {m a : List Bool} → length a ≡ 512 → Copied m 0 a
-copied_none e = record { within = omega arith; nodes = e; same = λ k h. absurd (omega arith) }
-
-pub copied_more : {m a : List Bool} {v : ℕ} → Copied m v a → v < 512 → Copied m (v + 1) (set a v (get_or m v false))
-copied_more {m} {a} {v} x h =
-    record {
-      within = omega arith;
-      nodes = length-set a v (get_or m v false) ∙ x.nodes;
-      same = λ k l. go k l (ℕ_discrete k v);
-    }
-  where
-    go : (k : ℕ) → k < v + 1 → Dec (k ≡ v) → get_or (set a v (get_or m v false)) k false ≡ get_or m k false
-    go k l (yes e) = rw e (get_or-set_same a v (get_or m v false) false (omega (arith, x.nodes)))
-    go k l (no d) = get_or-set_other a v k (get_or m v false) false d ∙ x.same k (omega arith)
-
-pub copied_alive : {m a : List Bool} {v mode : ℕ} → Copied m v a → 512 ≤ v → (mode ≡ 0 → ⊥) → Alive mode m a
-copied_alive x h d = record { nodes = x.nodes; strong = λ e. absurd (d e); relaxed = λ l k w. x.same k (omega arith) }
-
 pub alive_all : {m : List Bool} {mode : ℕ} → mode ≡ 0 → Alive mode m (replicate 512 true)
 alive_all e =
     record {
       nodes = length-replicate {A = Bool} 512 true;
       strong = λ z v h. get_or-replicate 512 v true false h;
       relaxed = λ l. absurd (omega arith);
+    }
+
+pub alive_marked :
+    {m a : List Bool} {mode : ℕ} {F : Type 0} {g : Mut F (ℕ × Unit {0}) Bool} {f : F}
+    → mode ≡ 1
+    → IsFromFnResult g f a 512
+    → ((i : ℕ) (y : Bool) (q : F) → Called g f (i, tt) y q → (q ≡ f) × (y ≡ get_or m i false))
+    → Alive mode m a
+alive_marked {m} {a} {mode} {F} {g} {f} e x same =
+    record {
+      nodes = x.long;
+      strong = λ z. absurd (omega arith);
+      relaxed = λ l v h. made_at (λ i. get_or m i false) x same v false h;
     }
 
 -- what is marked of 512 nodes is a node

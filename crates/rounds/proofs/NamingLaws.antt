@@ -24,10 +24,11 @@ use Rattle.graph.proofs.Naming.{named_start, named_old, named_new, named_skip, n
 use Rattle.routes.specs.Walk.{State}
 use Rattle.rounds.specs.Schedule.{round_no}
 use Rattle.rounds.specs.States.{StateOf, Fault, Shows, Bad, FirstBad, chosen, Named}
-use Rattle.rounds.specs.Working.{Leads, fault_if, Says, Coded, Spans, Searched, first_bad, Decided, to_old, to_new}
-use Rattle.rounds.specs.declared.check.Found.TheVariants.{At}
+use Rattle.rounds.specs.Working.{Stands, Leads, the_fault, Says, Coded, Spans, Searched, first_bad, Decided, to_old, to_new}
+use Rattle.std.specs.Prelude.{Some}
+use Rattle.rounds.specs.declared.check.BadRound.{BadRound}
 use Rattle.rounds.proofs.Bridge.{choice_in, choice_at, choice_none, choice_earlier, choice_here, choice_later, state_respects, bad_possible}
-use Rattle.rounds.proofs.FaultLaws.{said_true, said_false, Setting, possible_leads, coded_choices}
+use Rattle.rounds.proofs.FaultLaws.{said_true, said_false, possible_leads, coded_choices}
 use Rattle.rounds.proofs.RoundLaws.{zeros}
 use Rattle.rounds.proofs.NamedLaws.{chosen_here, chosen_state, least_named}
 
@@ -46,15 +47,15 @@ state_agree ids zs t X Y x y f v = go (ℕ_discrete (round_no ids zs v) 0) (dec_
     go (no e) (no h) (yes k) = x.later v k ∙ sym (y.later v k)
     go (no e) (no h) (no k) = f v (omega arith)
 
-pub record Stopped (mode : ℕ) (o n ids zs : List ℕ) (d : Bool) (t i : ℕ) (cl : List ℕ) : Type 0 where
-  pub first : FirstBad mode o n ids zs t (fault_if d)
-  pub span : Spans ids zs t i (i + get_or zs (t - 1) 0)
-  pub coded : Coded ids zs t 2 cl
+pub record Stopped (mode : ℕ) (o n ids zs : List ℕ) (b : BadRound) (cl : List ℕ) : Type 0 where
+  pub first : FirstBad mode o n ids zs b.round (the_fault b.fault)
+  pub span : Spans ids zs b.round b.from (b.from + get_or zs (b.round - 1) 0)
+  pub coded : Coded ids zs b.round 2 cl
 
 pub searched_at :
-    {mode : ℕ} {o n ids zs : List ℕ} {d : Bool} {t i : ℕ} {cl : List ℕ}
-    → Searched mode o n ids zs (At d t i) cl
-    → Stopped mode o n ids zs d t i cl
+    {mode : ℕ} {o n ids zs : List ℕ} {b : BadRound} {cl : List ℕ}
+    → Searched mode o n ids zs (Some b) cl
+    → Stopped mode o n ids zs b cl
 searched_at (first_bad b s x) = record { first = b; span = s; coded = x }
 
 module _ {f : Fault} {mode : ℕ} {a b : List ℕ} {s : ℕ} {cl ws : List ℕ} {v : ℕ} {r : Bool} where
@@ -140,7 +141,7 @@ module _
     abbrev Sh : State → Type 0
     Sh = Shows f mode o n
 
-    module _ {a b : List ℕ} {r : ℕ} (z : Setting o n a b r) (id : ℕ) (h : i < to) (e : id ≡ get_or ids i 0) where
+    module _ {a b : List ℕ} {r : ℕ} (z : Stands o n a b r) (id : ℕ) (h : i < to) (e : id ≡ get_or ids i 0) where
       here : round_no ids zs id ≡ t
       here = rw e (s.inside i m.begun h)
 

@@ -2,13 +2,15 @@
 --
 --   encode_more      == the bytes of a list of numbers with one more
 --   write_more       == one more number is written after those that are written
---   write_all        == eight words are written
+--   Begun ws l b i   == the first i of eight words ws are written to the front of l, which is then b
+--   write_none, write_next, write_all == writing begins, goes on by a word, and ends
 --   judged_sound, judged_faulty == what the reply of judging the change says
+--   no_mode          == a number up to 1 is a mode
 --   short_first, short_refused == 1 is given where the lent bytes are too short, and they stay as they were
 --   change_first     == what judging the change refuses is refused
---   change_clear_set, clear_set == nothing of 1 and 4 to 14 applies exactly when nothing applies to the change and the lent
---                       bytes are long enough
+--   change_clear_set == nothing of 1 and 4 to 14 applies where nothing applies to the change and the lent bytes are long enough
 --   reply_no         == the refusal of the first bad round is the reply
+use Rattle.std.specs.Prelude.{Ok, Err}
 use Prim.Native.Nat.{ℕ, ◌+◌, ◌*◌, ◌<◌, ◌≤◌}
 use native.Mathlib.Nat.{mul-suc}
 use native.Mathlib.Numerals.{add-one}
@@ -23,13 +25,11 @@ use Rattle.house.specs.declared.Refusal.{Refusal}
 use Rattle.house.specs.declared.Refusal.TheVariants.{Unfit}
 use Rattle.house.specs.Numbers.{entries}
 use Rattle.house.proofs.NumberLaws.{length_bytes, length_encode, put_number_in}
-use Rattle.routes.specs.declared.pair.Judged.TheVariants.{Sound, Faulty}
+use Rattle.rounds.specs.Mode.{ModeOf, over}
 use Rattle.rounds.specs.States.{Fault, FirstBad, Named}
 use Rattle.rounds.specs.Replies.{ChangeFault, JudgesChange, sound, faulty, CheckFault, short_set}
 use Rattle.rounds.specs.Replies.{change, written, Checks, refused, begins_faulty, shows}
 use Rattle.rounds.specs.Working.{Refuses, begins, shown}
-use Rattle.rounds.specs.declared.check.Checked.{Checked}
-use Rattle.rounds.specs.declared.check.Checked.TheVariants.{Refused}
 use Rattle.house.proofs.RefusalLaws.{unfit_first}
 
 pub encode_more : (w : ℕ) (xs : List ℕ) (x : ℕ) → encode w (xs ++ (x ∷ [])) ≡ encode w xs ++ bytes w x
@@ -76,31 +76,52 @@ write_more w ws l b i h k e =
         ∙ ap (encode w) (take-suc ws i 0 h)
         ∙ encode_more w (take i ws) x
 
-pub write_all :
-    (ws l b : List ℕ) (i : ℕ) → length ws ≡ 8 → i ≡ 8 → b ≡ encode 8 (take i ws) ++ drop (8 * i) l → b ≡ written ws l
+-- the first i of the words ws are written to the front of l, and the rest is kept
+pub record Begun (ws l b : List ℕ) (i : ℕ) : Type 0 where
+  pub within : i ≤ 8
+  pub front : b ≡ encode 8 (take i ws) ++ drop (8 * i) l
+
+pub write_none : (ws l : List ℕ) → Begun ws l l 0
+unfolding encode
+write_none ws l = record { within = omega arith; front = refl }
+
+pub write_next :
+    {ws l b c : List ℕ} {i : ℕ}
+    → length ws ≡ 8
+    → 64 ≤ length l
+    → i < 8
+    → Begun ws l b i
+    → c ≡ put_number 8 b i (get_or ws i 0)
+    → Begun ws l c (i + 1)
+write_next {ws} {l} {b} {c} {i} e h k x d =
+    record { within = omega arith; front = d ∙ write_more 8 ws l b i (omega arith) (omega arith) x.front }
+
+pub write_all : {ws l b : List ℕ} {i : ℕ} → length ws ≡ 8 → 8 ≤ i → Begun ws l b i → b ≡ written ws l
 unfolding written
-write_all ws l b i e d q = q ∙ ap₂ (λ p r. encode 8 p ++ r) (take_all i ws (omega arith)) (ap (λ (n : ℕ). drop n l) n)
-  where
-    n : 8 * i ≡ 64
-    n = omega arith
+write_all {ws} {l} {b} {i} e h x =
+    let n : 8 * i ≡ 64 = omega (arith, x.within) in
+    x.front ∙ ap₂ (λ p r. encode 8 p ++ r) (take_all i ws (omega arith)) (ap (λ (n : ℕ). drop n l) n)
 
 pub judged_sound :
     {old new : List ℕ} {mode : ℕ} {ids sizes : List ℕ}
-    → JudgesChange old new mode ids sizes Sound
+    → JudgesChange old new mode ids sizes (Ok tt)
     → Clear (ChangeFault old new mode ids sizes)
 judged_sound (sound k) = k
 
 pub judged_faulty :
     {old new : List ℕ} {mode : ℕ} {ids sizes : List ℕ} {r : Refusal}
-    → JudgesChange old new mode ids sizes (Faulty r)
+    → JudgesChange old new mode ids sizes (Err r)
     → First (ChangeFault old new mode ids sizes) r
 judged_faulty (faulty f) = f
+
+pub no_mode : {n : ℕ} {r : Refusal} → ModeOf n (Err r) → n ≤ 1 → ⊥
+no_mode (over h) l = omega arith
 
 module _ {old new : List ℕ} {mode : ℕ} {ids sizes set : List ℕ} where
   pub short_first : length set < 64 → First (CheckFault old new mode ids sizes set) Unfit
   short_first h = unfit_first (short_set h)
 
-  pub short_refused : length set < 64 → Checks old new mode ids sizes set (Refused Unfit) set
+  pub short_refused : length set < 64 → Checks old new mode ids sizes set (Err Unfit) set
   short_refused h = refused (short_first h) refl
 
   module _ (h : 64 ≤ length set) where
@@ -115,18 +136,12 @@ module _ {old new : List ℕ} {mode : ℕ} {ids sizes set : List ℕ} where
     pub change_clear_set : Clear (ChangeFault old new mode ids sizes) → Clear (CheckFault old new mode ids sizes set)
     change_clear_set k = record { clear = λ q g. k.clear q (into g) }
 
-  pub clear_set :
-      Clear (CheckFault old new mode ids sizes set) → Clear (ChangeFault old new mode ids sizes) × (64 ≤ length set)
-  clear_set k =
-      let n : length set < 64 → ⊥ = λ h. k.clear Unfit (short_set h) in
-      (record { clear = λ q f. k.clear q (change f) }, omega arith)
-
   pub reply_no :
-      {t : ℕ} {f : Fault} {ws after : List ℕ} {a : Checked}
+      {t : ℕ} {f : Fault} {ws after : List ℕ} {r : Refusal}
       → Clear (CheckFault old new mode ids sizes set)
       → FirstBad mode (entries old) (entries new) (entries ids) (entries sizes) t f
       → Named mode (entries old) (entries new) (entries ids) (entries sizes) t f ws
-      → Refuses f t ws set a after
-      → Checks old new mode ids sizes set a after
+      → Refuses f t ws set r after
+      → Checks old new mode ids sizes set (Err r) after
   reply_no k b m (begins z) = begins_faulty k b m z refl
   reply_no k b m (shown z r e) = shows k b m z r e

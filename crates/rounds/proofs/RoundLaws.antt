@@ -1,15 +1,13 @@
 -- Laws of the indexes of a round, of the choice that is painted for it, and of going through the rounds. Assumes nothing.
 --
 --   spans            == round k + 1 begins where the first k sizes end
---   painted_none, painted_more, painted_skip, painted_to == painting begins, paints an id, passes over a number that is no node,
---                       and comes to the end
 --   zeros            == a list of zeros has 0 at each index, and past its end
 --   coded_start      == before round 1 each node has the number 0
 --   coded_paint      == the ids of round t painted with another number
 --   coded_next       == with round t new only, the choice is that before round t + 1
 --   Passed .. k i cl == the first k rounds are good; i is the index where they end, and cl the choice before round k + 1
---   passed_start, passed_spans, passed_more, passed_drop, passed_loop, passed_end == the search begins, comes to a round, goes
---                       on past a good one, stops at one that drops or loops, and ends
+--   passed_start, passed_spans, passed_more, passed_bad, passed_end == the search begins, comes to a round, goes on past a good
+--                       one, stops at one that drops or loops, and ends
 --   searched_none    == where the search finds nothing, no round is bad
 use Prim.Native.Nat.{ℕ, suc, ◌+◌, ◌-◌, ◌<◌, ◌≤◌}
 use native.Mathlib.Numerals.{add-one}
@@ -18,8 +16,7 @@ use native.Mathlib.Decide.{dec_lt, ℕ_discrete}
 use mathlib.Core.Path.{◌≡◌, refl, sym, ◌∙◌, ap}
 use mathlib.Core.Bool.{Bool, true, false}
 use mathlib.Core.List.{List}
-use lib.ListN.{length, get_or, set, replicate, length-set, length-replicate, get_or-replicate, get_or-eq_default}
-use lib.Seq.{get_or-set_same, get_or-set_other}
+use lib.ListN.{length, get_or, replicate, length-replicate, get_or-replicate, get_or-eq_default}
 use lib.Dec.{eqb}
 use borrow.Author.Tests.{lt-ltb, le-ltb, eq-eqb, ne_eqb}
 use Rattle.routes.specs.Routes.{Good}
@@ -28,11 +25,12 @@ use Rattle.routes.proofs.RuleLaws.{due_below}
 use Rattle.routes.proofs.JumpLaws.{position_at, on_position}
 use Rattle.rounds.specs.Schedule.{round_of, round_no, Schedule}
 use Rattle.rounds.specs.States.{Fault, a_drop, a_loop, Bad, FirstBad}
-use Rattle.rounds.specs.Working.{Leads, fault_if, Tells, drops, loops, fine, Painted, code_in, Coded, Spans, Searched, none_bad, first_bad}
-use Rattle.rounds.specs.declared.check.Found.TheVariants.{Nowhere, At}
-use Rattle.rounds.specs.declared.faults.Kind.TheVariants.{Fine, Drops, Loops}
+use Rattle.rounds.specs.Working.{Stands, Leads, the_fault, Tells, drops, loops, fine, Painted, code_in, Coded, Spans, Searched, none_bad, first_bad}
+use Rattle.std.specs.Prelude.{Some, None}
+use Rattle.rounds.specs.declared.faults.Fault.{Fault as FaultShown}
+use Rattle.rounds.specs.declared.faults.Fault.TheVariants.{Drop, Loop}
 use Rattle.rounds.proofs.ScheduleLaws.{up_to, up_to_none, up_to_suc, up_to_most, round_is, round_spans, number_of, number_none, number_at}
-use Rattle.rounds.proofs.FaultLaws.{Setting, bad_leads}
+use Rattle.rounds.proofs.FaultLaws.{bad_leads}
 
 by_bool : {A : Type 0} (b : Bool) → (b ≡ true → A) → (b ≡ false → A) → A
 by_bool true f g = f refl
@@ -77,45 +75,6 @@ spans {o} {n} {ids} {zs} g s k t i h e d =
             (round_spans zs (suc k) (position ids v) (omega (arith, s.sums))).0 (sym (number_of ids zs v z) ∙ q ∙ e)
             in
             (position ids v, omega (arith, b.0), omega (arith, b.1, ends), position_at ids v l)
-
-pub painted_none : {l : List ℕ} {q : ℕ} {cl : List ℕ} (i : ℕ) → length cl ≡ 512 → Painted l i i q cl cl
-painted_none i e = record { nodes = e; inside = λ k a b. absurd (omega arith); outside = λ v f. refl }
-
-module _ {l : List ℕ} {i j q : ℕ} {cl cl' : List ℕ} (x : Painted l i j q cl cl') where
-  pub painted_more : (v : ℕ) → v ≡ get_or l j 0 → v < 512 → i ≤ j → Painted l i (j + 1) q cl (set cl' v q)
-  painted_more v e h w =
-      record {
-        nodes = length-set cl' v q ∙ x.nodes;
-        inside = λ k a b c. inside k a b c (ℕ_discrete (get_or l k 0) v);
-        outside =
-            λ u f.
-            get_or-set_other cl' v u q 0 (λ d. f j w (omega arith) (sym e ∙ sym d))
-            ∙ x.outside u (λ k a b. f k a (omega arith));
-      }
-    where
-      inside : (k : ℕ) → i ≤ k → k < j + 1 → get_or l k 0 < 512 → Dec (get_or l k 0 ≡ v) → get_or (set cl' v q) (get_or l k 0) 0 ≡ q
-      inside k a b c (yes d) = rw d (get_or-set_same cl' v q 0 (omega (arith, x.nodes)))
-      inside k a b c (no d) = get_or-set_other cl' v (get_or l k 0) q 0 d ∙ x.inside k a (earlier (ℕ_discrete k j)) c
-        where
-          earlier : Dec (k ≡ j) → k < j
-          earlier (yes r) = absurd (d (ap (λ (y : ℕ). get_or l y 0) r ∙ sym e))
-          earlier (no r) = omega arith
-
-  pub painted_skip : (v : ℕ) → v ≡ get_or l j 0 → 512 ≤ v → Painted l i (j + 1) q cl cl'
-  painted_skip v e h =
-      record {
-        nodes = x.nodes;
-        inside = λ k a b c. x.inside k a (earlier k b c (ℕ_discrete k j)) c;
-        outside = λ u f. x.outside u (λ k a b. f k a (omega arith));
-      }
-    where
-      earlier : (k : ℕ) → k < j + 1 → get_or l k 0 < 512 → Dec (k ≡ j) → k < j
-      earlier k b c (yes r) = absurd (omega (arith, ap (λ (y : ℕ). get_or l y 0) r))
-      earlier k b c (no r) = omega arith
-
-pub painted_to :
-    {l : List ℕ} {i j k q : ℕ} {cl cl' : List ℕ} → j ≤ k → k ≤ j → Painted l i j q cl cl' → Painted l i k q cl cl'
-painted_to {l} {i} {j} {k} {q} {cl} {cl'} a b x = let e : j ≡ k = omega arith in rw e at x
 
 code_first : (r : ℕ) → code_in r 1 0 ≡ 0
 code_first r = go (ℕ_discrete r 0)
@@ -195,77 +154,80 @@ passed_start mode o n {ids} {zs} x =
       good = λ t h k. absurd (omega arith);
     }
 
-module _ {mode : ℕ} {o n ids zs : List ℕ} {k i : ℕ} {cl : List ℕ} (p : Passed mode o n ids zs k i cl) where
-  pub passed_spans : Good o n → Schedule o n ids zs → k < length zs → Spans ids zs (k + 1) i (i + get_or zs k 0)
-  passed_spans g s h = spans g s k (k + 1) i h (omega arith) p.begins
+-- of round k + 1, which has z ids
+module _
+    {mode : ℕ} {o n ids zs : List ℕ} {k i z : ℕ} {cl : List ℕ} {a b : List ℕ} {s : ℕ}
+    (p : Passed mode o n ids zs k i cl)
+    (u : Stands o n a b s)
+    (m : Schedule o n ids zs)
+    (h : k < length zs)
+    (e : z ≡ get_or zs k 0)
+  where
+    pub passed_spans : Spans ids zs (k + 1) i (i + z)
+    passed_spans = rw e (spans u.good m k (k + 1) i h (omega arith) p.begins)
 
-  module _ {a b : List ℕ} {s j : ℕ} {cl' : List ℕ} (z : Setting o n a b s) (w : Spans ids zs (k + 1) i j) (x : Painted ids i j 2 cl cl') where
-    either_here : Coded ids zs (k + 1) 2 cl'
-    either_here = coded_paint w p.coded x
+    module _ {cl' : List ℕ} (x : Painted ids i (i + z) 2 cl cl') where
+      either_here : Coded ids zs (k + 1) 2 cl'
+      either_here = coded_paint passed_spans p.coded x
 
-    pub passed_more :
-        {cl'' : List ℕ}
-        → k < length zs
-        → j ≡ i + get_or zs k 0
-        → Tells mode a b cl' s Fine
-        → Painted ids i j 1 cl' cl''
-        → Passed mode o n ids zs (k + 1) j cl''
-    passed_more h e (fine nd nl) y =
-        record {
-          within = omega arith;
-          begins = e ∙ ap (λ (v : ℕ). v + get_or zs k 0) p.begins ∙ sym (up_to_suc zs k) ∙ ap (up_to zs) (sym (add-one k));
-          coded = coded_next (coded_paint w either_here y) (omega arith);
-          good = λ t l m f. go t l m f (ℕ_discrete t (k + 1));
-        }
-      where
-        none : (f : Fault) → Leads f mode a b cl' s → ⊥
-        none a_drop = nd
-        none a_loop = nl
+      pub passed_more :
+          {cl'' : List ℕ}
+          → Tells mode a b cl' s None
+          → Painted ids i (i + z) 1 cl' cl''
+          → Passed mode o n ids zs (k + 1) (i + z) cl''
+      passed_more (fine nd nl) y =
+          record {
+            within = omega arith;
+            begins = rw (e, p.begins) (sym (up_to_suc zs k)) ∙ ap (up_to zs) (sym (add-one k));
+            coded = coded_next (coded_paint passed_spans either_here y) (omega arith);
+            good = λ t l c f. go t l c f (ℕ_discrete t (k + 1));
+          }
+        where
+          none : (f : Fault) → Leads f mode a b cl' s → ⊥
+          none a_drop = nd
+          none a_loop = nl
 
-        go : (t : ℕ) → 0 < t → t ≤ k + 1 → (f : Fault) → Dec (t ≡ k + 1) → Bad mode o n ids zs t f → ⊥
-        go t l m f (yes e) b = none f ((bad_leads z either_here f mode).0 (rw e at b))
-        go t l m f (no d) b = p.good t l (omega arith) f b
+          go : (t : ℕ) → 0 < t → t ≤ k + 1 → (f : Fault) → Dec (t ≡ k + 1) → Bad mode o n ids zs t f → ⊥
+          go t l c f (yes d) w = none f ((bad_leads u either_here f mode).0 (rw d at w))
+          go t l c f (no d) w = p.good t l (omega arith) f w
 
-    stops :
-        (d : Bool)
-        → k < length zs
-        → j ≡ i + get_or zs k 0
-        → Leads (fault_if d) mode a b cl' s
-        → (fault_if d ≡ a_loop → Leads a_drop mode a b cl' s → ⊥)
-        → Searched mode o n ids zs (At d (k + 1) i) cl'
-    stops d h e l f =
-        first_bad here reach either_here
-      where
-        reach : Spans ids zs (k + 1) i (i + get_or zs (k + 1 - 1) 0)
-        reach = let q : k + 1 - 1 ≡ k = omega arith in rw q (rw e at w)
+      stops :
+          (d : FaultShown)
+          → Leads (the_fault d) mode a b cl' s
+          → (the_fault d ≡ a_loop → Leads a_drop mode a b cl' s → ⊥)
+          → Searched mode o n ids zs (Some (record { fault = d; round = k + 1; from = i })) cl'
+      stops d l f = first_bad here reach either_here
+        where
+          reach : Spans ids zs (k + 1) i (i + get_or zs (k + 1 - 1) 0)
+          reach = let q : k + 1 - 1 ≡ k = omega arith in rw q (rw e at passed_spans)
 
-        here : FirstBad mode o n ids zs (k + 1) (fault_if d)
-        here =
-            record {
-              from_one = omega arith;
-              a_round = omega arith;
-              earlier_good = λ u a b. p.good u a (omega arith);
-              bad = (bad_leads z either_here (fault_if d) mode).1 l;
-              drop_first = λ g b. f g ((bad_leads z either_here a_drop mode).0 b);
-            }
+          here : FirstBad mode o n ids zs (k + 1) (the_fault d)
+          here =
+              record {
+                from_one = omega arith;
+                a_round = omega arith;
+                earlier_good = λ t c w. p.good t c (omega arith);
+                bad = (bad_leads u either_here (the_fault d) mode).1 l;
+                drop_first = λ g w. f g ((bad_leads u either_here a_drop mode).0 w);
+              }
 
-    drop_loop : a_drop ≡ a_loop → ⊥
-    drop_loop e = let y : ◌≡◌ {A = ℕ} 0 1 = cc in omega arith
+      pub passed_bad :
+          {d : FaultShown}
+          → Tells mode a b cl' s (Some d)
+          → Searched mode o n ids zs (Some (record { fault = d; round = k + 1; from = i })) cl'
+      passed_bad (drops l) = stops Drop l (λ g. let y : ◌≡◌ {A = ℕ} 0 1 = cc in absurd (omega arith))
+      passed_bad (loops nd l) = stops Loop l (λ g. nd)
 
-    pub passed_drop :
-        k < length zs → j ≡ i + get_or zs k 0 → Tells mode a b cl' s Drops → Searched mode o n ids zs (At true (k + 1) i) cl'
-    passed_drop h e (drops l) = stops true h e l (λ g. absurd (drop_loop g))
-
-    pub passed_loop :
-        k < length zs → j ≡ i + get_or zs k 0 → Tells mode a b cl' s Loops → Searched mode o n ids zs (At false (k + 1) i) cl'
-    passed_loop h e (loops nd l) = stops false h e l (λ g. nd)
-
-  pub passed_end : length zs ≤ k → Searched mode o n ids zs Nowhere cl
-  passed_end h = none_bad (λ t l m. p.good t l (omega arith))
+pub passed_end :
+    {mode : ℕ} {o n ids zs : List ℕ} {k i : ℕ} {cl : List ℕ}
+    → Passed mode o n ids zs k i cl
+    → length zs ≤ k
+    → Searched mode o n ids zs None cl
+passed_end p h = none_bad (λ t l m. p.good t l (omega arith))
 
 pub searched_none :
     {mode : ℕ} {o n ids zs cl : List ℕ}
-    → Searched mode o n ids zs Nowhere cl
+    → Searched mode o n ids zs None cl
     → (t : ℕ)
     → 0 < t
     → t ≤ length zs

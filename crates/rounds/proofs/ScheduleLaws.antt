@@ -25,6 +25,7 @@
 --   number_none     == an id has the round 0 exactly where it is in none
 --   number_most     == the round of an id is at most the number of rounds
 --   position_once, number_at == in a schedule the id at index i has the position i, and the round of i
+use Rattle.std.specs.Prelude.{Result, Err}
 use Prim.Native.Nat.{ℕ, zero, suc, ◌+◌, ◌-◌, ◌%◌, ◌<◌, ◌≤◌}
 use mathlib.Core.Path.{◌≡◌, refl, sym, ap, ◌∙◌}
 use mathlib.Core.Bool.{Bool, true, false, cond}
@@ -37,6 +38,7 @@ use lib.ListN.{length, get_or, take}
 use lib.Seq.{take_all}
 use lib.Dec.{ltb}
 use borrow.Author.Tests.{lt-ltb, le-ltb}
+use Rattle.std.proofs.lemmas.Bool.{true_from_ne_false, true≢false}
 use Rattle.rounds.specs.Tests.{Falls}
 use Rattle.rounds.specs.Schedule.{
   sum,
@@ -62,8 +64,6 @@ use Rattle.routes.specs.Routes.{Good}
 use Rattle.routes.specs.Rules.{due}
 use Rattle.routes.specs.Jumps.{position, on}
 use Rattle.routes.specs.Replies.{JudgeFault}
-use Rattle.routes.specs.declared.pair.Judged.{Judged}
-use Rattle.routes.specs.declared.pair.Judged.TheVariants.{Faulty}
 use Rattle.routes.proofs.PairLaws.{clear_whole, clear_good, good_clear}
 use Rattle.routes.proofs.JumpLaws.{position_at, position_before, position_off, position_on, on_position, position_is}
 
@@ -229,15 +229,6 @@ repeat_earlier {ids} {zs} f j i l h e =
 
 -- ---- what the tests tell
 
--- a Bool that is not false is true
-sure : (b : Bool) → (b ≡ false → ⊥) → b ≡ true
-sure true f = refl
-sure false f = absurd (f refl)
-
--- a Bool is not both
-not_both : {b : Bool} → b ≡ true → b ≡ false → ⊥
-not_both p q = let z : ◌≡◌ {A = ℕ} 0 1 = cc in omega arith
-
 -- an id that no index holds isn't on the list, and the other way round
 pub nowhere_off : (l : List ℕ) (v : ℕ) → ((i : ℕ) → i < length l → get_or l i 0 ≡ v → ⊥) → on l v ≡ false
 nowhere_off l v f = go (dec_lt (position l v) (length l))
@@ -251,7 +242,7 @@ off_nowhere l v e i h g = go (dec_lt i (position l v))
   where
     go : Dec (i < position l v) → ⊥
     go (yes b) = position_before l v i b g
-    go (no b) = not_both (position_on l v (omega arith)) e
+    go (no b) = true≢false (sym (position_on l v (omega arith)) ∙ e)
 
 module _ {o n : List ℕ} {mode : ℕ} {ids zs : List ℕ} (k : Clear (ScheduleFault o n mode ids zs)) where
   pub clear_mode : mode ≤ 1
@@ -267,9 +258,9 @@ module _ {o n : List ℕ} {mode : ℕ} {ids zs : List ℕ} (k : Clear (ScheduleF
         sums = dec→stable (ℕ_discrete (sum zs) (length ids)) (λ h. k.clear SizesSum (sum_differs h));
         sizes = sized;
         rising = rising none_falls;
-        are_due = λ i h. sure (due o n (get_or ids i 0)) (λ e. k.clear (NotDue (round_of zs i) i) (not_due h refl e));
+        are_due = λ i h. true_from_ne_false (due o n (get_or ids i 0)) (λ e. k.clear (NotDue (round_of zs i) i) (not_due h refl e));
         once = λ j i l h e. k.clear (Again (round_of zs i) i) (again h refl (omega arith) (repeat_earlier none_falls j i l h e) e);
-        all_due = λ v d. sure (on ids v) (λ e. k.clear (Missing v) (missing d (off_nowhere ids v e)));
+        all_due = λ v d. true_from_ne_false (on ids v) (λ e. k.clear (Missing v) (missing d (off_nowhere ids v e)));
       }
     where
       sized : (i : ℕ) → i < length zs → 0 < get_or zs i 0
@@ -284,9 +275,9 @@ schedule_clear {o} {n} {mode} {ids} {zs} m s = record { clear = go }
     go q (sum_differs h) = h s.sums
     go q (empty {t} {i} e h z) = omega (arith, s.sizes i h)
     go q (not_rising {t} {i} {j} e h d r l) = omega (arith, s.rising j i (omega arith) h r)
-    go q (not_due {t} {i} h e d) = not_both (s.are_due i h) d
+    go q (not_due {t} {i} h e d) = true≢false (sym (s.are_due i h) ∙ d)
     go q (again {t} {i} {j} h e l r d) = s.once j i (round_before zs j i (omega arith)) h d
-    go q (missing {v} d f) = not_both (s.all_due v d) (nowhere_off ids v f)
+    go q (missing {v} d f) = true≢false (sym (s.all_due v d) ∙ nowhere_off ids v f)
 
 -- ---- a sound change
 
@@ -333,14 +324,14 @@ change_clear {old} {new} {mode} {ids} {sizes} s = record { clear = go }
     go q (schedule f) = (schedule_clear s.mode_low s.schedule).clear q f
 
 pub judges_change_one :
-    {old new : List ℕ} {mode : ℕ} {ids sizes : List ℕ} {a b : Judged}
+    {old new : List ℕ} {mode : ℕ} {ids sizes : List ℕ} {a b : Result (Unit {0}) Refusal}
     → JudgesChange old new mode ids sizes a
     → JudgesChange old new mode ids sizes b
     → a ≡ b
 judges_change_one (sound k) (sound l) = refl
 judges_change_one (sound k) (faulty f) = absurd (first_not_clear f k)
 judges_change_one (faulty f) (sound k) = absurd (first_not_clear f k)
-judges_change_one (faulty f) (faulty g) = ap Faulty (first_one f g)
+judges_change_one (faulty f) (faulty g) = ap Err (first_one f g)
 
 -- ---- the round of an id
 

@@ -11,24 +11,26 @@
 --   mode_first, mode_passed, total_first, total_passed == the same for the two tests that have one place only
 --   passed_clear    == all passed: no refusal applies
 --   empties_tell, falls_tell, strays_tell, agains_tell, losses_tell == what each test looks for
---   passed_fitting  == past the test of empty rounds the sizes fit
 --   passed_low      == past the test of ids not due each id is one of a node
 --   MarksDue o n m  == the marks m are those of the due nodes, and of no other number
 --   marks_due       == so are the marks where the two tables of next values differ
 --   answers_first   == the refusal that is given is the reply
 --   change_unfit, change_judged, change_answers == the reply to a change from the reply to its parts
+--   found_below     == what a search finds is below its end
 --   Taken zs k left total == the first k sizes are taken from the total, and `left` is left
---   taken_none, taken_more, taken_out, taken_all, taken_in, taken_past == the sizes are taken one by one: from none of them,
---                      one more, until one exceeds what is left; what is left after all of them; which round an index is in
+--   taken_none, taken_more, taken_in, taken_past == the sizes are taken one by one: from none of them, one more, until one
+--                      exceeds what is left, or past all of them
+--   located_end, located_before, located_round == what the place of an index tells: of the sum of all sizes, and of its round
 --   Scan ids zs t end i == a run through the ids has come to i, t rounds are begun and end at `end`, and no id before i falls
 --   scan_none, scan_some, scan_next, scan_rounds, scan_fits, scan_here, scan_on, scan_end == the run begins; within a round
 --                      there is an id before; a round begins, there is one more, and it ends within the ids; the id at i
 --                      falls, or does not; the run ends
---   stray_here, stray_on == the id at i has no mark, or has one
---   again_here      == a run with marks for the ids met comes to one that is marked: the first repeat
+--   again_here, again_end == a run with marks for the ids met comes to one that is marked: the first repeat; or to the end
 --   LeftOf m ids left i == the marks left are those of m without the first i of the ids
---   left_none, left_more, left_end == the marks are struck out one by one
-use Prim.Native.Nat.{ℕ, suc, ◌+◌, ◌-◌, ◌<◌, ◌≤◌}
+--   left_more, left_end == the marks are struck out one by one
+--   unplaced_first  == the first mark left is the first that is lost
+use Rattle.std.specs.Prelude.{Option, Some, None, Result, Ok, Err}
+use Prim.Native.Nat.{ℕ, suc, ◌+◌, ◌-◌, ◌%◌, ◌<◌, ◌≤◌}
 use mathlib.Core.Path.{◌≡◌, refl, sym, ap, ◌∙◌, subst}
 use mathlib.Core.Bool.{Bool, true, false}
 use mathlib.Core.List.{List, [], ◌∷◌}
@@ -39,21 +41,25 @@ use native.Mathlib.Omega.{arith}
 use lib.ListN.{length, get_or, set, length-set, get_or-eq_default}
 use lib.Seq.{get_or-set_same, get_or-set_other}
 use lib.Dec.{eqb}
-use borrow.Author.Tests.{eq-eqb, ne_eqb}
+use borrow.Author.Count.{below_more}
+use borrow.Author.Tests.{eq-eqb, ne_eqb, eqb-true, eqb-false}
+use Rattle.std.proofs.lemmas.Bool.{true≢false}
 use Rattle.house.specs.declared.Refusal.{Refusal}
 use Rattle.house.specs.declared.Refusal.TheVariants.{Unfit, ModeOver, SizesSum, RoundEmpty, NotRising, NotDue, Again, Missing}
-use Rattle.house.specs.Numbers.{entries, Whole}
+use Rattle.house.specs.Finds.{Finds, found, nowhere}
+use Rattle.house.specs.Numbers.{entries}
 use Rattle.house.specs.Refusals.{number, Before, lower, sooner, nearer, First, Clear}
-use Rattle.routes.specs.Routes.{Good, Repeat, FirstAt}
+use Rattle.routes.specs.Routes.{Good, Repeat}
 use Rattle.routes.specs.Rules.{due, Values, Differ}
 use Rattle.routes.specs.Tests.{LowIds}
-use Rattle.routes.specs.Replies.{JudgeFault}
-use Rattle.routes.specs.declared.pair.Judged.{Judged}
-use Rattle.routes.specs.declared.pair.Judged.TheVariants.{Faulty}
+use Rattle.routes.specs.Replies.{Judges, sound as Pair-sound, faulty as Pair-faulty}
 use Rattle.house.proofs.RefusalLaws.{before_number, unfit_first}
 use Rattle.routes.proofs.PairLaws.{judge_low}
 use Rattle.routes.proofs.RuleLaws.{due_mark, due_below}
-use Rattle.routes.proofs.TestLaws.{Unmet, unmet_none, unmet_more, unmet_here, unmet_end, Marked}
+use Rattle.routes.proofs.TestLaws.{Marked}
+use Rattle.rounds.specs.Mode.{mode_no, ModeOf, is_mode, over}
+use Rattle.rounds.specs.declared.mode.Mode.{Mode}
+use Rattle.rounds.specs.declared.mode.Mode.TheVariants.{Strong, Relaxed}
 use Rattle.rounds.specs.Schedule.{
   sum,
   round_of,
@@ -66,7 +72,7 @@ use Rattle.rounds.specs.Schedule.{
   again,
   missing,
 }
-use Rattle.rounds.specs.Tests.{Fitting, Falls, Stray, Lost, Unplaced, Answers, sound as All-sound, faulty as one-faulty}
+use Rattle.rounds.specs.Tests.{Located, Fitting, Falls, Stray, Lost, Unplaced, Answers, sound as All-sound, faulty as one-faulty}
 use Rattle.rounds.specs.Replies.{ChangeFault, half_ids, half_sizes, judged, schedule, JudgesChange, sound, faulty}
 use Rattle.rounds.proofs.ScheduleLaws.{
   up_to,
@@ -81,6 +87,9 @@ use Rattle.rounds.proofs.ScheduleLaws.{
   round_before,
   repeat_earlier,
 }
+
+pub found_below : {P : ℕ → Type 0} {n r : ℕ} → Finds P n (Some r) → r < n
+found_below (found h p f) = h
 
 -- ---- tests in the order of their numbers
 
@@ -244,42 +253,39 @@ module _ {o n : List ℕ} {mode : ℕ} {ids zs : List ℕ} where
       {t : Test} {m r : ℕ} {P : ℕ → Type 0}
       → Tells o n mode ids zs t m P
       → Passed o n mode ids zs (rank t)
-      → FirstAt P m r
-      → r < m
+      → Finds P m (Some r)
       → First (ScheduleFault o n mode ids zs) (refusal zs t r)
-  run_first {t} {m} {r} a p f h =
-      passed_first t r p (a.fault r h (f.found h)) (λ k l g. f.none_before k l (a.holds k g).1)
+  run_first {t} {r} a p (found h f none) = passed_first t r p (a.fault r h f) (λ k l g. none k l (a.holds k g).1)
 
   pub run_passed :
-      {t : Test} {m r : ℕ} {P : ℕ → Type 0}
+      {t : Test} {m : ℕ} {P : ℕ → Type 0}
       → Tells o n mode ids zs t m P
       → Passed o n mode ids zs (rank t)
-      → FirstAt P m r
-      → m ≤ r
+      → Finds P m None
       → Passed o n mode ids zs (suc (rank t))
-  run_passed {t} {m} {r} a p f h =
-      passed_more t p (λ i g. f.none_before i (omega (arith, (a.holds i g).0)) (a.holds i g).1)
+  run_passed {t} a p (nowhere none) = passed_more t p (λ i g. none i (a.holds i g).0 (a.holds i g).1)
 
   -- ---- what each test looks for
 
-  pub mode_first : 1 < mode → First (ScheduleFault o n mode ids zs) ModeOver
-  mode_first h = passed_first modes 0 passed_none (mode_over h) (λ k l. absurd (omega arith))
+  pub mode_first : {r : Refusal} → ModeOf mode (Err r) → First (ScheduleFault o n mode ids zs) r
+  mode_first (over h) = passed_first modes 0 passed_none (mode_over h) (λ k l. absurd (omega arith))
 
-  pub mode_passed : mode ≤ 1 → Passed o n mode ids zs 9
-  mode_passed h = passed_more modes passed_none (λ i f. go f)
+  pub mode_passed : {m : Mode} → ModeOf mode (Ok m) → Passed o n mode ids zs 9
+  mode_passed (is_mode {m} e) = passed_more modes passed_none (λ i f. go m e f)
     where
-      go : ScheduleFault o n mode ids zs ModeOver → ⊥
-      go (mode_over l) = omega arith
+      go : (m : Mode) → mode ≡ mode_no m → ScheduleFault o n mode ids zs ModeOver → ⊥
+      go Strong e (mode_over l) = omega arith
+      go Relaxed e (mode_over l) = omega arith
 
-  pub total_first :
-      Passed o n mode ids zs 9 → (sum zs ≡ length ids → ⊥) → First (ScheduleFault o n mode ids zs) SizesSum
-  total_first p h = passed_first totals 0 p (sum_differs h) (λ k l. absurd (omega arith))
+  pub total_first : Passed o n mode ids zs 9 → eqb (sum zs) (length ids) ≡ false → First (ScheduleFault o n mode ids zs) SizesSum
+  total_first p e =
+      passed_first totals 0 p (sum_differs (eqb-false (sum zs) (length ids) e)) (λ k l. absurd (omega arith))
 
-  pub total_passed : Passed o n mode ids zs 9 → sum zs ≡ length ids → Passed o n mode ids zs 10
+  pub total_passed : Passed o n mode ids zs 9 → eqb (sum zs) (length ids) ≡ true → Passed o n mode ids zs 10
   total_passed p e = passed_more totals p (λ i f. go f)
     where
       go : ScheduleFault o n mode ids zs SizesSum → ⊥
-      go (sum_differs h) = h e
+      go (sum_differs h) = h (eqb-true (sum zs) (length ids) e)
 
   pub empties_tell : Tells o n mode ids zs empties (length zs) (λ k. get_or zs k 0 ≡ 0)
   empties_tell = record { fault = λ i h e. empty refl h e; holds = λ i f. go i (suc i) refl f }
@@ -331,18 +337,6 @@ module _ {o n : List ℕ} {mode : ℕ} {ids zs : List ℕ} where
       go : {v : ℕ} → ScheduleFault o n mode ids zs (Missing v) → (v < 512) × Lost m ids v
       go (missing {v} d f) = (due_below g v d, record { marked = a.at v ∙ d; nowhere = f })
 
-  pub passed_fitting : Passed o n mode ids zs 11 → Fitting ids zs
-  passed_fitting p =
-      record {
-        sums = dec→stable (ℕ_discrete (sum zs) (length ids)) (λ e. p.passed totals 0 (omega arith) (sum_differs e));
-        sizes = sizes;
-      }
-    where
-      sizes : (i : ℕ) → i < length zs → 0 < get_or zs i 0
-      sizes i h =
-          let z : get_or zs i 0 ≡ 0 → ⊥ = λ e. p.passed empties i (omega arith) (empty refl h e) in
-          omega arith
-
   pub passed_low : Good o n → Passed o n mode ids zs 13 → LowIds ids
   passed_low g p = record { low = λ i h. go i h (due o n (get_or ids i 0)) refl }
     where
@@ -360,7 +354,7 @@ marks_due {o} {n} {a} {b} {m} g x y d = record { size = d.size; at = λ v. go v 
 
 -- ---- the reply to a change
 
-pub answers_first : {F : Refusal → Type 0} {q r : Refusal} → q ≡ r → First F r → Answers F (Faulty q)
+pub answers_first : {F : Refusal → Type 0} {q r : Refusal} → q ≡ r → First F r → Answers F (Err q)
 answers_first e f = one-faulty (rw (sym e) at f)
 
 schedule_high : {o n : List ℕ} {mode : ℕ} {ids zs : List ℕ} {q : Refusal} → ScheduleFault o n mode ids zs q → 8 ≤ number q
@@ -370,36 +364,36 @@ schedule_high {zs} {q} f = go (tells f)
     go (told t i e) = omega (arith, rank_number zs t i, (rank_range t).0, ap number e)
 
 module _ {old new : List ℕ} {mode : ℕ} {ids sizes : List ℕ} where
-  pub change_unfit : ChangeFault old new mode ids sizes Unfit → JudgesChange old new mode ids sizes (Faulty Unfit)
+  pub change_unfit : ChangeFault old new mode ids sizes Unfit → JudgesChange old new mode ids sizes (Err Unfit)
   change_unfit f = faulty (unfit_first f)
 
-  module _ (a : Whole ids) (b : Whole sizes) where
-    pub change_judged : {r : Refusal} → First (JudgeFault old new) r → JudgesChange old new mode ids sizes (Faulty r)
-    change_judged {r} f = faulty (record { applies = judged f.applies; lowest = go })
+  module _ (a : length ids % 2 ≡ 0) (b : length sizes % 2 ≡ 0) where
+    pub change_judged : {r : Refusal} → Judges old new (Err r) → JudgesChange old new mode ids sizes (Err r)
+    change_judged {r} (Pair-faulty f) = faulty (record { applies = judged f.applies; lowest = go })
       where
         go : (q : Refusal) → ChangeFault old new mode ids sizes q → Before q r → ⊥
-        go q (half_ids h) l = h a
-        go q (half_sizes h) l = h b
+        go q (half_ids h) l = h (record { even = a })
+        go q (half_sizes h) l = h (record { even = b })
         go q (judged g) l = f.lowest q g l
         go q (schedule g) l = omega (arith, schedule_high g, judge_low f.applies, before_number l)
 
     pub change_answers :
-        {r : Judged}
-        → Clear (JudgeFault old new)
+        {u : Unit {0}} {r : Result (Unit {0}) Refusal}
+        → Judges old new (Ok u)
         → Answers (ScheduleFault (entries old) (entries new) mode (entries ids) (entries sizes)) r
         → JudgesChange old new mode ids sizes r
-    change_answers k (All-sound c) = sound (record { clear = go })
+    change_answers (Pair-sound k) (All-sound c) = sound (record { clear = go })
       where
         go : (q : Refusal) → ChangeFault old new mode ids sizes q → ⊥
-        go q (half_ids h) = h a
-        go q (half_sizes h) = h b
+        go q (half_ids h) = h (record { even = a })
+        go q (half_sizes h) = h (record { even = b })
         go q (judged g) = k.clear q g
         go q (schedule g) = c.clear q g
-    change_answers k (one-faulty {r} f) = faulty (record { applies = schedule f.applies; lowest = go })
+    change_answers (Pair-sound k) (one-faulty {r} f) = faulty (record { applies = schedule f.applies; lowest = go })
       where
         go : (q : Refusal) → ChangeFault old new mode ids sizes q → Before q r → ⊥
-        go q (half_ids h) l = h a
-        go q (half_sizes h) l = h b
+        go q (half_ids h) l = h (record { even = a })
+        go q (half_sizes h) l = h (record { even = b })
         go q (judged g) l = k.clear q g
         go q (schedule g) l = f.lowest q g l
 
@@ -416,28 +410,38 @@ module _ {zs : List ℕ} {k left total z : ℕ} (a : Taken zs k left total) (e :
   pub taken_more : k < length zs → z ≤ left → Taken zs (k + 1) (left - z) total
   taken_more l h = record { within = omega arith; parts = rw (add-one k) (omega (arith, a.parts, up_to_suc zs k)) }
 
-  pub taken_out : left < z → eqb (sum zs) total ≡ false
-  taken_out h = ne_eqb (sum zs) total (λ s. omega (arith, a.parts, up_to_suc zs k, up_to_most zs (suc k)))
+  pub taken_in : k < length zs → left < z → Located zs total k left
+  taken_in l h = record { within = omega arith; parts = a.parts; inside = λ l. omega arith }
 
-  pub taken_in : left < z → k + 1 ≡ round_of zs total
-  taken_in h =
-      add-one k
-      ∙ sym (round_is zs k total (omega (arith, a.parts)) (omega (arith, a.parts, up_to_suc zs k)))
+pub taken_past : {zs : List ℕ} {k left total n : ℕ} → Taken zs k left total → n ≡ length zs → n ≤ k → Located zs total n left
+taken_past {zs} {k} {n} a e h =
+    let s : k ≡ n = omega (arith, a.within) in
+    record { within = omega arith; parts = rw s at a.parts; inside = λ l. absurd (omega arith) }
 
-module _ {zs : List ℕ} {k left total : ℕ} (a : Taken zs k left total) (h : length zs ≤ k) where
-  pub taken_all : eqb left 0 ≡ eqb (sum zs) total
-  taken_all = go (ℕ_discrete left 0)
+module _ {zs : List ℕ} {i k left : ℕ} (a : Located zs i k left) where
+  pub located_end : k ≡ length zs → eqb left 0 ≡ eqb (sum zs) i
+  located_end e = go (ℕ_discrete left 0)
     where
-      go : Dec (left ≡ 0) → eqb left 0 ≡ eqb (sum zs) total
-      go (yes e) =
-          eq-eqb left 0 e ∙ sym (eq-eqb (sum zs) total (omega (arith, a.parts, up_to_all zs k h)))
-      go (no e) =
-          ne_eqb left 0 e ∙ sym (ne_eqb (sum zs) total (λ s. e (omega (arith, a.parts, up_to_all zs k h))))
+      go : Dec (left ≡ 0) → eqb left 0 ≡ eqb (sum zs) i
+      go (yes z) = eq-eqb left 0 z ∙ sym (eq-eqb (sum zs) i (omega (arith, a.parts, up_to_all zs k (omega arith))))
+      go (no z) = ne_eqb left 0 z ∙ sym (ne_eqb (sum zs) i (λ s. z (omega (arith, a.parts, up_to_all zs k (omega arith)))))
 
-  pub taken_past : k + 1 ≡ round_of zs total
-  taken_past =
-      let s : k ≡ length zs = omega (arith, a.within) in
-      add-one k ∙ ap suc s ∙ sym (round_past zs total (omega (arith, a.parts, up_to_all zs k h)))
+  pub located_before : {m : ℕ} → m ≡ length zs → (k ≡ m → ⊥) → eqb k m ≡ eqb (sum zs) i
+  located_before {m} e f = ne_eqb k m f ∙ sym (ne_eqb (sum zs) i apart)
+    where
+      apart : sum zs ≡ i → ⊥
+      apart s =
+          let h : k < length zs = omega (arith, a.within, e, f) in
+          omega (arith, a.parts, a.inside h, up_to_suc zs k, up_to_most zs (suc k))
+
+  pub located_round : k + 1 ≡ round_of zs i
+  located_round = add-one k ∙ sym (go (dec_lt k (length zs)))
+    where
+      go : Dec (k < length zs) → round_of zs i ≡ suc k
+      go (yes h) = round_is zs k i (omega (arith, a.parts)) (omega (arith, a.parts, a.inside h, up_to_suc zs k))
+      go (no h) =
+          let s : k ≡ length zs = omega (arith, a.within) in
+          round_past zs i (omega (arith, a.parts, up_to_all zs k (omega arith))) ∙ ap suc (sym s)
 
 -- ---- a run through the ids by rounds
 
@@ -446,7 +450,7 @@ pub record Scan (ids zs : List ℕ) (t end i : ℕ) : Type 0 where
   pub inside : i ≤ end
   pub fresh : i ≡ 0 → t ≡ 0
   pub begun : 0 < i → start zs t < i
-  pub run : Unmet (Falls ids zs) (length ids) i
+  pub none_falls : (k : ℕ) → k < i → Falls ids zs k → ⊥
 
 pub scan_none : {ids zs : List ℕ} → Scan ids zs 0 0 0
 scan_none {ids} {zs} =
@@ -455,7 +459,7 @@ scan_none {ids} {zs} =
       inside = omega arith;
       fresh = λ e. e;
       begun = λ h. absurd (omega arith);
-      run = unmet_none;
+      none_falls = λ k h. absurd (omega arith);
     }
 
 module _ {ids zs : List ℕ} {t end i : ℕ} (f : Fitting ids zs) (a : Scan ids zs t end i) (h : i < length ids) where
@@ -485,7 +489,7 @@ module _ {ids zs : List ℕ} {t end i : ℕ} (f : Fitting ids zs) (a : Scan ids 
           inside = omega (arith, f.sizes t scan_rounds);
           fresh = λ e. absurd (omega arith);
           begun = λ l. omega (arith, a.ends);
-          run = unmet_more a.run h (λ w. omega (arith, last_round w.next, w.together, next_round));
+          none_falls = below_more _ _ a.none_falls (λ w. omega (arith, last_round w.next, w.together, next_round));
         })
 
   module _ (d : i ≡ end → ⊥) where
@@ -503,10 +507,10 @@ module _ {ids zs : List ℕ} {t end i : ℕ} (f : Fitting ids zs) (a : Scan ids 
         (round_spans zs t i (omega (arith, f.sums))).1
         (omega (arith, a.begun scan_some), omega (arith, a.ends, a.inside))
 
-    pub scan_here : get_or ids i 0 ≤ get_or ids (i - 1) 0 → FirstAt (Falls ids zs) (length ids) i
+    pub scan_here : get_or ids i 0 ≤ get_or ids (i - 1) 0 → Finds (Falls ids zs) (length ids) (Some i)
     scan_here l =
         let s : i ≡ suc (i - 1) = omega (arith, scan_some) in
-        unmet_here a.run (record { last = i - 1; next = s; together = last_round s ∙ sym this_round; not_above = l })
+        found h (record { last = i - 1; next = s; together = last_round s ∙ sym this_round; not_above = l }) a.none_falls
 
     pub scan_on : get_or ids (i - 1) 0 < get_or ids i 0 → Scan ids zs t end (i + 1)
     scan_on l =
@@ -515,7 +519,7 @@ module _ {ids zs : List ℕ} {t end i : ℕ} (f : Fitting ids zs) (a : Scan ids 
           inside = omega (arith, a.inside);
           fresh = λ e. absurd (omega arith);
           begun = λ b. omega (arith, a.begun scan_some);
-          run = unmet_more a.run h above;
+          none_falls = below_more _ _ a.none_falls above;
         }
       where
         above : Falls ids zs i → ⊥
@@ -523,41 +527,25 @@ module _ {ids zs : List ℕ} {t end i : ℕ} (f : Fitting ids zs) (a : Scan ids 
             let s : w.last ≡ i - 1 = omega (arith, w.next) in
             omega (arith, rw s at w.not_above)
 
-pub scan_end : {ids zs : List ℕ} {t end i : ℕ} → Scan ids zs t end i → length ids ≤ i → FirstAt (Falls ids zs) (length ids) i
-scan_end a h = unmet_end a.run h
+pub scan_end : {ids zs : List ℕ} {t end i : ℕ} → Scan ids zs t end i → length ids ≤ i → Finds (Falls ids zs) (length ids) None
+scan_end a h = nowhere (λ k l. a.none_falls k (omega arith))
 
--- ---- marks looked up, set and struck out
-
-pub stray_here :
-    {m : List Bool} {ids : List ℕ} {i v : ℕ}
-    → Unmet (Stray m ids) (length ids) i
-    → v ≡ get_or ids i 0
-    → get_or m v false ≡ false
-    → FirstAt (Stray m ids) (length ids) i
-stray_here a e f = unmet_here a (record { unmarked = rw (sym e) f })
-
-pub stray_on :
-    {m : List Bool} {ids : List ℕ} {i v : ℕ}
-    → Unmet (Stray m ids) (length ids) i
-    → i < length ids
-    → v ≡ get_or ids i 0
-    → get_or m v false ≡ true
-    → Unmet (Stray m ids) (length ids) (i + 1)
-stray_on {m} {ids} {i} {v} a h e t = unmet_more a h none
-  where
-    none : Stray m ids i → ⊥
-    none s = let z : ◌≡◌ {A = ℕ} 0 1 = cc s.unmarked in omega arith
+-- ---- marks set and struck out
 
 pub again_here :
     {l : List ℕ} {met : List Bool} {i v : ℕ}
     → Marked l met i
+    → i < length l
     → v ≡ get_or l i 0
     → get_or met v false ≡ true
-    → FirstAt (Repeat l) (length l) i
-again_here {l} {met} {i} {v} a e t = unmet_here a.run (go (a.back v t))
+    → Finds (Repeat l) (length l) (Some i)
+again_here {l} {met} {i} {v} a h e t = found h (go (a.back v t)) a.run.none_before
   where
     go : (j : ℕ) × (j < i) × (get_or l j 0 ≡ v) → Repeat l i
     go (j, k, s) = (j, k, s ∙ e)
+
+pub again_end : {l : List ℕ} {met : List Bool} {i : ℕ} → Marked l met i → length l ≤ i → Finds (Repeat l) (length l) None
+again_end a h = nowhere (λ k b. a.run.none_before k (omega arith))
 
 pub record LeftOf (m : List Bool) (ids : List ℕ) (left : List Bool) (i : ℕ) : Type 0 where
   pub size : length left ≡ 512
@@ -565,16 +553,6 @@ pub record LeftOf (m : List Bool) (ids : List ℕ) (left : List Bool) (i : ℕ) 
   pub of : (v : ℕ) → get_or left v false ≡ true → get_or m v false ≡ true
   pub struck : (v : ℕ) → get_or left v false ≡ true → (j : ℕ) → j < i → get_or ids j 0 ≡ v → ⊥
   pub kept : (v : ℕ) → get_or m v false ≡ true → ((j : ℕ) → j < i → get_or ids j 0 ≡ v → ⊥) → get_or left v false ≡ true
-
-pub left_none : {m : List Bool} {ids : List ℕ} → length m ≡ 512 → LeftOf m ids m 0
-left_none s =
-    record {
-      size = s;
-      within = omega arith;
-      of = λ v e. e;
-      struck = λ v e j h. absurd (omega arith);
-      kept = λ v e f. e;
-    }
 
 pub left_more :
     {m : List Bool} {ids : List ℕ} {left : List Bool} {i w : ℕ}
@@ -594,9 +572,7 @@ left_more {m} {ids} {left} {i} {w} a h e b =
   where
     gone : (v : ℕ) → v ≡ w → get_or (set left w false) v false ≡ true → ⊥
     gone v s t =
-        let c : get_or (set left w false) w false ≡ false = get_or-set_same left w false false (omega (arith, a.size)) in
-        let z : ◌≡◌ {A = ℕ} 0 1 = cc in
-        omega arith
+        true≢false (sym (rw s at t) ∙ get_or-set_same left w false false (omega (arith, a.size)))
 
     before : (v : ℕ) → get_or (set left w false) v false ≡ true → get_or left v false ≡ true
     before v t = go (ℕ_discrete v w)
@@ -629,3 +605,11 @@ left_end {m} {ids} {left} {i} a h =
       lost = λ v t. record { marked = a.of v t; nowhere = λ j l. a.struck v t j (omega arith) };
       left = λ v t. a.kept v t.marked (λ j l. t.nowhere j (omega (arith, a.within)));
     }
+
+pub unplaced_first :
+    {m : List Bool} {ids : List ℕ} {l : List Bool} {n : ℕ} {r : Option ℕ}
+    → Unplaced m ids l
+    → Finds (λ v. get_or l v false ≡ true) n r
+    → Finds (Lost m ids) n r
+unplaced_first u (found h t f) = found h (u.lost _ t) (λ k b w. f k b (u.left k w))
+unplaced_first u (nowhere f) = nowhere (λ k b w. f k b (u.left k w))

@@ -4,3 +4,4 @@ pub mod States
 pub mod Packet
 pub mod Replies
 pub mod Working
+pub mod Mode

@@ -1,68 +1,61 @@
 // Which fault some state of a round shows. By the last exit law a path or a closed path, by the steps that the round's choice
 // allows, tells it; one search each finds them.
-ghost use Rattle.rounds.specs.Working.{Leads, fault_if, Says, Alive, Tells};
+ghost use Rattle.graph.specs.Search.{Reached};
+ghost use Rattle.rounds.specs.Mode.{mode_no};
+ghost use Rattle.rounds.specs.Working.{Leads, the_fault, Says, Alive, Tells};
 
-// What the states that a choice allows show: a drop before a loop.
-#[derive(Drop)]
-pub enum Kind {
-    Fine,
-    Drops,
-    Loops,
+use crate::mode::Mode;
+use crate::setting::Setting;
+use std::array;
+
+// What a state can show.
+#[derive(Clone, Copy, Debug, PartialEq, Eq)]
+pub enum Fault {
+    Drop,
+    Loop,
 }
 
 // The nodes whose closed paths count: all in strong mode; in relaxed mode those that a path from the source leads to.
-fn alive(seen: &[bool; 514], mode: u16) -> [bool; 512]
-    ensures { Alive mode seen.now result }
+fn alive(seen: &[bool; 514], mode: Mode) -> [bool; 512]
+    ensures { Alive (mode_no mode) seen.now result }
 {
-    let marks: &[bool] = seen;
-    let mut nodes = [true; 512];
-    if mode == 0 {
-        return nodes;
+    match mode {
+        Mode::Strong => [true; 512],
+        Mode::Relaxed => array::from_fn(|v| seen[v]),
     }
-    let mut v = 0;
-    while v < 512 {
-        nodes[v] = marks[v];
-        v += 1;
-    }
-    nodes
 }
 
-// What the states that the choice allows show, in this mode. One search from the source serves the drop and the relaxed loop.
-pub fn fault(
-    old: &[u16; 512],
-    new: &[u16; 512],
-    choice: &[u8; 512],
-    source: usize,
-    mode: u16,
-) -> Kind
-    ensures { Tells mode old.now new.now choice.now source result }
-{
-    let seen = graph::reach(old, new, choice, source);
-    if seen[512] {
-        return Kind::Drops;
+impl Setting {
+    // Whether some state that the choice allows shows this fault, in this mode. `seen` is what a search from the source reached.
+    fn leads(&self, choice: &[u8; 512], seen: &[bool; 514], fault: Fault) -> bool
+        requires { Reached self.now.old self.now.new choice.now self.now.source seen.now }
+        ensures { Says (Leads (the_fault fault) (mode_no self.now.mode) self.now.old self.now.new choice.now self.now.source) result }
+    {
+        match fault {
+            Fault::Drop => seen[512],
+            Fault::Loop => self.graph(choice).cyclic(&alive(seen, self.mode)),
+        }
     }
-    let nodes = alive(&seen, mode);
-    if graph::cyclic(old, new, choice, &nodes) {
-        return Kind::Loops;
-    }
-    Kind::Fine
-}
 
-// Whether some state that the choice allows drops, or, where `drop` is false, loops in this mode.
-pub fn shows(
-    old: &[u16; 512],
-    new: &[u16; 512],
-    choice: &[u8; 512],
-    source: usize,
-    mode: u16,
-    drop: bool,
-) -> bool
-    ensures { Says (Leads (fault_if drop) mode old.now new.now choice.now source) result }
-{
-    let seen = graph::reach(old, new, choice, source);
-    if drop {
-        return seen[512];
+    // What the states that the choice allows show, in this mode. One search from the source serves the drop and the relaxed loop.
+    pub(crate) fn first_shown(&self, choice: &[u8; 512]) -> Option<Fault>
+        ensures { Tells (mode_no self.now.mode) self.now.old self.now.new choice.now self.now.source result }
+    {
+        let seen = self.graph(choice).reach(self.source);
+        if self.leads(choice, &seen, Fault::Drop) {
+            return Some(Fault::Drop);
+        }
+        if self.leads(choice, &seen, Fault::Loop) {
+            return Some(Fault::Loop);
+        }
+        None
     }
-    let nodes = alive(&seen, mode);
-    graph::cyclic(old, new, choice, &nodes)
+
+    // Whether some state that the choice allows shows this fault, in this mode.
+    pub(crate) fn shows(&self, choice: &[u8; 512], fault: Fault) -> bool
+        ensures { Says (Leads (the_fault fault) (mode_no self.now.mode) self.now.old self.now.new choice.now self.now.source) result }
+    {
+        let seen = self.graph(choice).reach(self.source);
+        self.leads(choice, &seen, fault)
+    }
 }

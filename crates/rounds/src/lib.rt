@@ -3,4 +3,6 @@
 
 pub mod check;
 mod faults;
+pub mod mode;
 pub mod schedule;
+pub mod setting;

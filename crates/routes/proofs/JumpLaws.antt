@@ -4,31 +4,35 @@
 --   position_le, position_at, position_before == v's position is at most the length; v stands there if it is below the
 --                       length; v doesn't stand before it
 --   position_first   == v's position is the first index of l where v stands; position_is == and no other number is
+--   sought, unsought == a search for v answers v's position, or None where v isn't on l
 --   position_index   == on a good route the position of the id at index i is i
 --   on_position, position_on, position_off == v is on l where its position is below the length, and only there
 --   HasJump o n v    == what `has_jump` says, by its three parts
---   has_jump_known, jump_has == from the test to its parts and back; has_jump_of == the test from its parts' tests
+--   has_jump_known, jump_has == from the test to its parts and back
 --   has_swap, has_jump_swap == the routes of a good pair may be exchanged in both
 --   first_on_past, first_on_here, first_on_end == the first shared id from index i on: passing i, at i, past the end
 --   Met p q v w      == w is the next meeting node along q after v, with its index there
 --   meeting_is       == where the next meeting node is looked for; met_from == and is found
 --   meets            == a node that has a jump has a next meeting node
 --   jump_met         == the jump is the difference of the two positions
+--   met_small        == on a good route the position of a shared id is below 256
+--   off_old, off_new, none_met == v has no jump: where it isn't on one of the routes, and where no next meeting node is found
+--   jump_in          == and has one where all three are found
 --   jump_some        == a node that has a jump has one in the order of either route (by good_swap and has_jump_swap)
 --   difference       == a fact of the difference of two numbers, by which is greater
---   difference_small == the difference of two positions below 256 fits 32 bits
 --   jump_range       == a jump is from -253 to 255 and not 0
---   letter_sign      == the letter by the test of the sign
---   judges_good      == a pair that is judged sound is good
+--   or_refused, or_jump == the jump of a node, or the refusal for None
 --   jumps_judged, jumps_none, jumps_by == the three ways to the reply of `jumps`
 --   jumps_one        == `jumps` has one reply
 --   jumps_range      == both jumps of a reply are in range
+use Rattle.std.specs.Prelude.{Result, Ok, Err, ok_or, Option as Answer, Some, None}
+use Rattle.routes.specs.declared.jump.NodeJumps.{NodeJumps}
 use Prim.Native.Nat.{ℕ, zero, suc, ◌+◌, ◌-◌, ◌<◌, ◌≤◌}
 use mathlib.Core.Path.{◌≡◌, refl, sym, ap, ◌∙◌}
-use mathlib.Core.Bool.{Bool, true, false, not, cond, ◌&&◌}
+use mathlib.Core.Bool.{Bool, true, false, not, ◌&&◌}
 use mathlib.Core.List.{List, [], ◌∷◌}
 use mathlib.Core.Logic.{◌⊎◌, inl, inr}
-use mathlib.Core.Option.{none, some}
+use mathlib.Core.Option.{Option, none, some}
 use native.Mathlib.Decide.{dec_lt, ℕ_discrete}
 use native.Mathlib.Numerals.{add-one}
 use native.Mathlib.Omega.{arith}
@@ -36,18 +40,16 @@ use lib.ListN.{length, get_or, drop, length-drop, drop_of_length-le}
 use lib.Seq.{drop-cons, get_or-drop}
 use lib.Dec.{eqb, ltb}
 use lib.IntN.{ℤ, pos, negsuc, ◌-ℤ◌}
-use lib.Signed.{lt_z}
 use borrow.Author.Tests.{ltb-true, ltb-false, lt-ltb, le-ltb, eqb-true, eqb-false, ne_eqb, not-true}
 use mir.Syntax.{w32}
 use mir.Val.{SFits}
 use Rattle.routes.specs.Routes.{destination, GoodRoute, Good, FirstAt}
-use Rattle.routes.specs.Jumps.{position, on, first_on, meeting, jump, has_jump, Ranged, letter}
+use Rattle.routes.specs.Jumps.{position, on, first_on, meeting, jump, has_jump, Meets, met, unmet, JumpIn, has_one, has_none, Ranged}
 use Rattle.routes.specs.Replies.{JudgeFault, Judges, sound, faulty, JumpFault, judged, no_jump, Jumps, refused, jumped}
-use Rattle.routes.specs.declared.pair.Judged.TheVariants.{Sound, Faulty}
 use Rattle.routes.proofs.PairLaws.{clear_good, judge_first_in}
 use Rattle.routes.proofs.RuleLaws.{good_swap}
-use Rattle.routes.specs.declared.jump.Jumped.{Jumped}
-use Rattle.routes.specs.declared.jump.Jumped.TheVariants.{By, NoJumps}
+use Rattle.routes.proofs.TestLaws.{first_at}
+use Rattle.house.specs.Finds.{Finds, found}
 use Rattle.house.specs.Refusals.{number, Before}
 use Rattle.house.specs.Numbers.{entries}
 use Rattle.house.specs.declared.Refusal.{Refusal}
@@ -92,6 +94,15 @@ position_first l v =
 
 pub position_is : (l : List ℕ) (v : ℕ) {n i : ℕ} → n ≡ length l → FirstAt (λ k. get_or l k 0 ≡ v) n i → i ≡ position l v
 position_is l v e f = first_at_one (rw e at f) (position_first l v)
+
+pub sought :
+    (l : List ℕ) (v : ℕ) {i : ℕ}
+    → Finds (λ k. get_or l k 0 ≡ v) (length l) (Some i)
+    → (i ≡ position l v) × (i < length l)
+sought l v (found h e f) = (position_is l v refl (first_at (found h e f)), h)
+
+pub unsought : (l : List ℕ) (v : ℕ) → Finds (λ k. get_or l k 0 ≡ v) (length l) None → position l v ≡ length l
+unsought l v f = sym (position_is l v refl (first_at f))
 
 pub position_index : {l : List ℕ} → GoodRoute l → (i : ℕ) → i < length l → position l (get_or l i 0) ≡ i
 position_index {l} g i h =
@@ -141,14 +152,6 @@ pub jump_has : {o n : List ℕ} {v : ℕ} → HasJump o n v → has_jump o n v �
 unfolding has_jump
 jump_has {o} {n} {v} h =
     simp (position_on o v h.on_old, position_on n v h.on_new, ne_eqb v (destination o) h.no_end)
-
-pub has_jump_of :
-    (o n : List ℕ) (v : ℕ) {a b : Bool}
-    → on o v ≡ a
-    → on n v ≡ b
-    → has_jump o n v ≡ (a && b && not (eqb v (destination o)))
-unfolding has_jump
-has_jump_of o n v e f = rw (e, f)
 
 pub has_swap : {o n : List ℕ} {v : ℕ} → Good o n → HasJump o n v → HasJump n o v
 has_swap g h =
@@ -247,9 +250,59 @@ meets {p} {q} {v} g h = go (first_on_found p rest j (rw length-drop (omega (arit
 pub met_from : {p q : List ℕ} {v w i : ℕ} → Met p q v w → i ≡ position q v → first_on p (drop (i + 1) q) ≡ some w
 met_from {p} {q} {v} {w} {i} m e = rw (add-one i, e) (sym (meeting_is q p v) ∙ m.meets)
 
-pub jump_met : {p q : List ℕ} {v w : ℕ} → Met p q v w → jump p q v ≡ some (pos (position p w) -ℤ pos (position p v))
+jump_meets : (p q : List ℕ) (v : ℕ) {w : ℕ} → meeting q p v ≡ some w → jump p q v ≡ some (pos (position p w) -ℤ pos (position p v))
 unfolding jump
-jump_met m = rw m.meets
+jump_meets p q v e = rw e
+
+pub jump_met : {p q : List ℕ} {v w : ℕ} → Met p q v w → jump p q v ≡ some (pos (position p w) -ℤ pos (position p v))
+jump_met {p} {q} {v} m = jump_meets p q v m.meets
+
+none_not_some : {w : ℕ} → ◌≡◌ {A = Option ℕ} none (some w) → ⊥
+none_not_some e = let z : ◌≡◌ {A = ℕ} 0 1 = cc in omega arith
+
+-- the first shared id is shared
+first_on_is : (p l : List ℕ) {w : ℕ} → first_on p l ≡ some w → on p w ≡ true
+unfolding first_on
+first_on_is p [] e = absurd (none_not_some e)
+first_on_is p (a ∷ l) {w} e =
+    by_bool (on p a) (λ t. let s : a ≡ w = cc (rw t at e) in rw s at t) (λ t. first_on_is p l (rw t at e))
+
+pub met_small : {p l : List ℕ} {m : ℕ} → GoodRoute p → Meets p l (Some m) → m < 256
+met_small {p} {l} g (met {w} e) = omega (arith, on_position p w (first_on_is p l e), g.most)
+
+without : {p q : List ℕ} {v : ℕ} → (HasJump p q v → ⊥) → JumpIn p q v None
+without {p} {q} {v} f =
+    has_none (by_bool (has_jump p q v) (λ t. absurd (f (has_jump_known p q v t))) (λ t. t))
+
+pub off_old : {p q : List ℕ} {v : ℕ} → position p v ≡ length p → JumpIn p q v None
+off_old e = without (λ h. omega (arith, e, h.on_old))
+
+pub off_new : {p q : List ℕ} {v : ℕ} → position q v ≡ length q → JumpIn p q v None
+off_new e = without (λ h. omega (arith, e, h.on_new))
+
+pub none_met : {p q : List ℕ} {v i : ℕ} → Good p q → i ≡ position q v → Meets p (drop (i + 1) q) None → JumpIn p q v None
+none_met {p} {q} {v} {i} g e (unmet f) = without (λ h. go (meets g h))
+  where
+    go : (w : ℕ) × Met p q v w → ⊥
+    go (w, m) = none_not_some (sym f ∙ met_from m e)
+
+pub jump_in :
+    {p q : List ℕ} {v i m k : ℕ}
+    → Good p q
+    → (i ≡ position q v) × (i < length q)
+    → Meets p (drop (i + 1) q) (Some m)
+    → (k ≡ position p v) × (k < length p)
+    → JumpIn p q v (Some (pos m -ℤ pos k))
+jump_in {p} {q} {v} {i} {k = k} g (e, b) (met {w} f) (s, h) =
+    rw s
+    (has_one
+    (jump_has (record { on_old = omega (arith, s, h); on_new = omega (arith, e, b); no_end = no_end }))
+    (jump_meets p q v (meeting_is q p v ∙ (rw (add-one i, e) at f))))
+  where
+    no_end : v ≡ destination p → ⊥
+    no_end d =
+        let last : position q v ≡ length q - 1 = rw (d ∙ g.destinations) (position_index g.new (length q - 1) (omega (arith, b))) in
+        none_not_some (sym (first_on_end p q (i + 1) (omega (arith, e, last))) ∙ f)
 
 pub jump_some : {p q : List ℕ} → Good p q → (v : ℕ) → has_jump p q v ≡ true → (z : ℤ) × (jump p q v ≡ some z)
 jump_some {p} {q} g v e =
@@ -264,10 +317,6 @@ pub difference :
 difference P a zero f g = let e : a - 0 ≡ a + 0 = omega arith in rw e at (g (omega arith))
 difference P a (suc b) f g =
     by_bool (ltb a (suc b)) (λ t. rw t (f (ltb-true a (suc b) t))) (λ t. rw t (g (ltb-false a (suc b) t)))
-
-pub difference_small : (a b : ℕ) → a < 256 → b < 256 → SFits w32 (pos a -ℤ pos b)
-difference_small a b h k =
-    difference (λ z. SFits w32 z) a b (λ l. record { sfits = omega arith }) (λ l. record { sfits = omega arith })
 
 ranged : (a b : ℕ) → 0 < a → a < 256 → suc b < 256 → (a ≡ b → ⊥) → Ranged (pos a -ℤ pos b)
 ranged a b h k l n =
@@ -316,21 +365,43 @@ jump_range {p} {q} {z} g v t e = go (meets g h)
         (omega (arith, not_last h, g.old.most))
         (no_self g h m))
 
-pub letter_sign : (z : ℤ) → letter z ≡ cond (lt_z z (pos 0)) 66 70
-letter_sign (pos k) = rw (le-ltb k 0 (omega arith))
-letter_sign (negsuc k) = refl
+-- a jump fits 32 bits
+ranged_fits : (z : ℤ) → Ranged z → SFits w32 z
+ranged_fits (pos k) h = record { sfits = omega arith }
+ranged_fits (negsuc k) h = record { sfits = omega arith }
 
-pub jumps_one : {old new : List ℕ} {v : ℕ} {a b : Jumped} → Jumps old new v a → Jumps old new v b → a ≡ b
-jumps_one (refused f) (refused g) = ap NoJumps (first_one f g)
+pub jumps_one : {old new : List ℕ} {v : ℕ} {a b : Result NodeJumps Refusal} → Jumps old new v a → Jumps old new v b → a ≡ b
+jumps_one (refused f) (refused g) = ap Err (first_one f g)
 jumps_one (refused f) (jumped k x y) = absurd (first_not_clear f k)
 jumps_one (jumped k x y) (refused f) = absurd (first_not_clear f k)
-jumps_one (jumped k x y) (jumped l p q) = cc
+jumps_one (jumped {j = i} k x y) (jumped {j} l p q) = ap Ok (same (one (sym x ∙ p)) (one (sym y ∙ q)))
+  where
+    one : {a b : ℤ} → some a ≡ some b → a ≡ b
+    one e = cc
 
-pub judges_good : {old new : List ℕ} → Judges old new Sound → Good (entries old) (entries new)
-judges_good (sound k) = clear_good k
+    same : i.old_order ≡ j.old_order → i.new_order ≡ j.new_order → i ≡ j
+    same e f = λ t. record { old_order = e t; new_order = f t }
+
+pub or_refused :
+    {p q : List ℕ} {v : ℕ} {e x : Refusal} {r : Answer ℤ}
+    → JumpIn p q v r
+    → Err x ≡ ok_or r e
+    → (x ≡ e) × (has_jump p q v ≡ false)
+or_refused (has_one t j) s = let z : ◌≡◌ {A = ℕ} 0 1 = cc in absurd (omega arith)
+or_refused (has_none f) s = (cc, f)
+
+pub or_jump :
+    {p q : List ℕ} {v : ℕ} (e : Refusal) {z : ℤ} {r : Answer ℤ}
+    → Good p q
+    → JumpIn p q v r
+    → Ok z ≡ ok_or r e
+    → (has_jump p q v ≡ true) × (jump p q v ≡ some z) × SFits w32 z
+or_jump {v} e {z} g (has_one {z = y} t j) s =
+    let same : y ≡ z = cc in (t, rw same at j, rw same at (ranged_fits y (jump_range g v t j)))
+or_jump e g (has_none f) s = let z : ◌≡◌ {A = ℕ} 0 1 = cc in absurd (omega arith)
 
 -- the refusal of the pair is given
-pub jumps_judged : {old new : List ℕ} {v : ℕ} {r : Refusal} → Judges old new (Faulty r) → Jumps old new v (NoJumps r)
+pub jumps_judged : {old new : List ℕ} {v : ℕ} {r : Refusal} → Judges old new (Err r) → Jumps old new v (Err r)
 jumps_judged {old} {new} {v} (faulty f) = refused (judge_first_in out judged f)
   where
     out : (q : Refusal) → JumpFault old new v q → JudgeFault old new q ⊎ (7 < number q)
@@ -340,9 +411,9 @@ jumps_judged {old} {new} {v} (faulty f) = refused (judge_first_in out judged f)
 -- 18 is given to a node that has no jump
 pub jumps_none :
     {old new : List ℕ} {v : ℕ}
-    → Judges old new Sound
+    → Judges old new (Ok tt)
     → has_jump (entries old) (entries new) v ≡ false
-    → Jumps old new v (NoJumps (NoJump v))
+    → Jumps old new v (Err (NoJump v))
 jumps_none {old} {new} {v} (sound k) e = refused (record { applies = no_jump e; lowest = low })
   where
     low : (q : Refusal) → JumpFault old new v q → Before q (NoJump v) → ⊥
@@ -351,12 +422,12 @@ jumps_none {old} {new} {v} (sound k) e = refused (record { applies = no_jump e; 
 
 -- any other node's jumps are replied
 pub jumps_by :
-    {old new : List ℕ} {v : ℕ} {a b : ℤ}
-    → Judges old new Sound
+    {old new : List ℕ} {v : ℕ} {j : NodeJumps}
+    → Judges old new (Ok tt)
     → has_jump (entries old) (entries new) v ≡ true
-    → jump (entries old) (entries new) v ≡ some a
-    → jump (entries new) (entries old) v ≡ some b
-    → Jumps old new v (By a b)
+    → jump (entries old) (entries new) v ≡ some j.old_order
+    → jump (entries new) (entries old) v ≡ some j.new_order
+    → Jumps old new v (Ok j)
 jumps_by {old} {new} {v} (sound k) t x y = jumped (record { clear = none_applies }) x y
   where
     none_applies : (q : Refusal) → JumpFault old new v q → ⊥
@@ -364,7 +435,7 @@ jumps_by {old} {new} {v} (sound k) t x y = jumped (record { clear = none_applies
     none_applies q (no_jump f) = let z : true ≡ false = sym t ∙ f in let w : ◌≡◌ {A = ℕ} 0 1 = cc in omega arith
 
 -- in a reply both jumps are in range: one law, with the routes exchanged for the new order
-pub jumps_range : {old new : List ℕ} {v : ℕ} {a b : ℤ} → Jumps old new v (By a b) → Ranged a × Ranged b
+pub jumps_range : {old new : List ℕ} {v : ℕ} {j : NodeJumps} → Jumps old new v (Ok j) → Ranged j.old_order × Ranged j.new_order
 jumps_range {old} {new} {v} (jumped k x y) =
     (jump_range good v has x, jump_range (good_swap good) v (sym (has_jump_swap good v) ∙ has) y)
   where

@@ -7,7 +7,9 @@
 --   judged_unfit     == 1 is given where a slice is not whole entries
 --   judge_low        == the refusals of a pair have numbers up to 7
 --   judge_first_in   == the refusal that is given for the pair is given among more refusals too, if those have higher numbers
+--   judges_good      == a pair that is judged sound is good
 --   judges_one       == `judge` has one reply
+use Rattle.std.specs.Prelude.{Result, Ok, Err}
 use Prim.Native.Nat.{ℕ, ◌%◌, ◌<◌, ◌≤◌}
 use mathlib.Core.Path.{◌≡◌, refl, ap}
 use mathlib.Core.Logic.{◌⊎◌, inl, inr}
@@ -39,8 +41,6 @@ use Rattle.routes.specs.Routes.{
   destinations_differ,
 }
 use Rattle.routes.specs.Replies.{JudgeFault, half_old, half_new, pair, Judges, sound, faulty}
-use Rattle.routes.specs.declared.pair.Judged.{Judged}
-use Rattle.routes.specs.declared.pair.Judged.TheVariants.{Faulty}
 
 -- an equation of numbers that cannot fail holds
 agree : (a b : ℕ) → ((a ≡ b → ⊥) → ⊥) → a ≡ b
@@ -159,8 +159,11 @@ judge_first_in {old} {new} {G} {r} out into f = record { applies = into f.applie
     go q (inl j) b = f.lowest q j b
     go q (inr h) b = omega (arith, low, before_number b)
 
-pub judges_one : {old new : List ℕ} {a b : Judged} → Judges old new a → Judges old new b → a ≡ b
+pub judges_good : {old new : List ℕ} {u : Unit {0}} → Judges old new (Ok u) → Good (entries old) (entries new)
+judges_good (sound k) = clear_good k
+
+pub judges_one : {old new : List ℕ} {a b : Result (Unit {0}) Refusal} → Judges old new a → Judges old new b → a ≡ b
 judges_one (sound k) (sound l) = refl
 judges_one (sound k) (faulty f) = absurd (first_not_clear f k)
 judges_one (faulty f) (sound k) = absurd (first_not_clear f k)
-judges_one (faulty f) (faulty g) = ap Faulty (first_one f g)
+judges_one (faulty f) (faulty g) = ap Err (first_one f g)

@@ -39,7 +39,9 @@
 --
 --   due_rule            == a due node has a rule on one of the two lists, which may be any
 --   tally_cong, tally_most, tally_add == equal tests have equal tallies; the tally of k numbers is at most k; one number more
+--   tally_length        == a tally is the length of the list of the numbers it counts
 --   get_d_default       == below the length no default is read
+--   made_at             == what `from_fn` makes of a closure that computes h and stays as it is holds h k at each index k
 --   apart_read          == the test whether two tables differ, by reading an element of each
 --   values_one, differ_one == a list has one table of next values, two tables one array of marks
 use Prim.Native.Nat.{ℕ, zero, suc, ◌+◌, ◌-◌, ◌<◌, ◌≤◌}
@@ -47,12 +49,19 @@ use native.Mathlib.Nat.{not-suc-le-zero, le_of_suc-le-suc}
 use native.Mathlib.Numerals.{add-one}
 use native.Mathlib.Omega.{arith}
 use native.Mathlib.Decide.{ℕ_discrete, dec_lt}
-use mathlib.Core.Path.{◌≡◌, refl, sym, ap, ◌∙◌}
+use mathlib.Core.Path.{◌≡◌, refl, sym, ap, subst, ◌∙◌}
 use mathlib.Core.Logic.{◌⊎◌, inl, inr, ⊎_elim}
 use mathlib.Core.Bool.{Bool, true, false, not, cond}
 use mathlib.Core.List.{List, [], ◌∷◌}
 use mathlib.Core.Option.{Option, none, some}
 use lib.ListN.{length, get_or, set, replicate, length-replicate, length-set, get_or-replicate}
+use denote.Param.Members.{Mut}
+use Rattle.std.specs.Array.{IsFromFnResult, IsFromFnResultFrom}
+use Rattle.std.specs.Fn.{Called}
+use Rattle.std.specs.List.{range_with_len, filter}
+use Rattle.std.proofs.lemmas.List.FromFn.{filter_of_map_range_with_len_more}
+use Rattle.std.proofs.lemmas.List.{map-id, length-append, get_or_default}
+use mathlib.Core.List.{◌++◌}
 use lib.Seq.{ext_get_or, get_or-set_same, get_or-set_other}
 use lib.Dec.{eqb}
 use borrow.Author.Tests.{eq-eqb, ne_eqb}
@@ -311,14 +320,59 @@ pub tally_add : (k : ℕ) (f : ℕ → Bool) → tally (k + 1) f ≡ tally k f +
 unfolding tally
 tally_add k f = rw (add-one k)
 
+pub tally_length : (k : ℕ) (f : ℕ → Bool) → length (filter f (range_with_len 0 k)) ≡ tally k f
+unfolding tally
+tally_length zero f = refl
+tally_length (suc k) f =
+    ap (λ (n : ℕ). length (filter f (range_with_len 0 n))) (sym (add-one k))
+    ∙ ap length more
+    ∙ length-append (filter f (range_with_len 0 k)) (cond (f k) (k ∷ []) [])
+    ∙ rw (tally_length k f, one_more (f k)) refl
+  where
+    more : filter f (range_with_len 0 (k + 1)) ≡ filter f (range_with_len 0 k) ++ cond (f k) (k ∷ []) []
+    more =
+        rw (map-id (range_with_len 0 (k + 1)), map-id (range_with_len 0 k))
+        at (filter_of_map_range_with_len_more f (λ v. v) 0 k k (omega arith))
+
+    one_more : (b : Bool) → length (cond b (k ∷ []) []) ≡ cond b 1 0
+    one_more true = refl
+    one_more false = refl
+
 pub get_d_default : (l : List ℕ) (i d e : ℕ) → i < length l → get_or l i d ≡ get_or l i e
-get_d_default [] i d e h = absurd (not-suc-le-zero h)
-get_d_default (a ∷ l) zero d e h = refl
-get_d_default (a ∷ l) (suc i) d e h = get_d_default l i d e (le_of_suc-le-suc h)
+get_d_default l i d e h = get_or_default l i d e h
+
+module _ {F B : Type 0} {g : Mut F (ℕ × Unit {0}) B} {f : F} (h : ℕ → B) where
+  made_from :
+      (ys : List B) (i n : ℕ)
+      → ((x : ℕ) (r : B) (q : F) → Called g f (x, tt) r q → (q ≡ f) × (r ≡ h x))
+      → IsFromFnResultFrom g f ys i n
+      → (k : ℕ) (d : B)
+      → i ≤ k
+      → k < i + n
+      → get_or ys k d ≡ h k
+  made_from ys i zero pure m k d a b = absurd (omega arith)
+  made_from ys i (suc n) pure (q, y, e, t, m) k d a b =
+      go (ℕ_discrete i k) (λ l. made_from ys (i + 1) n pure (subst (λ (p : F). IsFromFnResultFrom g p ys (i + 1) n) same.0 m) k d l (omega arith))
+    where
+      same : (q ≡ f) × (y ≡ h i)
+      same = pure i y q t
+
+      go : Dec (i ≡ k) → (i + 1 ≤ k → get_or ys k d ≡ h k) → get_or ys k d ≡ h k
+      go (yes p) later = rw (← p) (e.1 d ∙ same.1)
+      go (no o) later = later (omega arith)
+
+  pub made_at :
+      {ys : List B} {n : ℕ}
+      → IsFromFnResult g f ys n
+      → ((x : ℕ) (r : B) (q : F) → Called g f (x, tt) r q → (q ≡ f) × (r ≡ h x))
+      → (k : ℕ) (d : B)
+      → k < n
+      → get_or ys k d ≡ h k
+  made_at {ys} {n} m pure k d l = made_from ys 0 n pure m.each k d (omega arith) (omega arith)
 
 pub apart_read :
     (a b : List ℕ) (v : ℕ) → v < length a → v < length b → apart a b v ≡ not (eqb (get_or a v 0) (get_or b v 0))
-apart_read a b v h k = rw (get_d_default a v 512 0 h, get_d_default b v 512 0 k)
+apart_read a b v h k = rw (get_or_default a v 512 0 h, get_or_default b v 512 0 k)
 
 pub values_one : {l t t' : List ℕ} → Values l t → Values l t' → t ≡ t'
 values_one {l} {t} {t'} x y =

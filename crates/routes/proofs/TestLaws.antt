@@ -18,10 +18,12 @@
 --   Marked l met i == the marks met are those of the ids of l before the index i, and none of these is a repeat
 --   marked_none, marked_more, marked_here, marked_end == the run with marks begins, goes on, meets an id marked, comes to
 --                     the end
---   none_first     == a route with no repeat has its first one at its end
---   Run F z m r    == r is where a run of the test F through the route z, of m ids, stops: its first failure, or the end
---   run_ids, run_repeats == the runs of the two tests
---   run_old, run_new, run_none == where a test over both routes fails first, from its runs
+--   first_at       == the number that a search finds, or its end, is the first number
+--   no_first       == in a route with no repeat none is found
+--   FirstOn F z r  == r is where the test F fails first for the route z, or None where it doesn't
+--   first_length, first_id, first_twice == where each of three tests fails first, from its search through one route
+--   either_spotted == where a test over both routes fails first, from the two routes' searches
+use Rattle.std.specs.Prelude.{Option, Some, None, unwrap_or}
 use Prim.Native.Nat.{ℕ, zero, suc, ◌+◌, ◌-◌, ◌<◌, ◌≤◌}
 use mathlib.Core.Path.{◌≡◌, ◌∙◌, refl, sym, ap, subst}
 use mathlib.Core.Bool.{Bool, true, false}
@@ -29,11 +31,14 @@ use mathlib.Core.Logic.{◌⊎◌, inl, inr}
 use mathlib.Core.List.{List, [], ◌∷◌}
 use native.Mathlib.Decide.{ℕ_discrete, dec_lt}
 use borrow.Author.Count.{below_more}
+use borrow.Author.Tests.{lt-ltb, le-ltb}
 use native.Mathlib.Omega.{arith}
 use lib.ListN.{length, get_or, set, replicate, length-set, length-replicate}
 use lib.Seq.{get_or-set_same, get_or-set_other}
 use Rattle.house.specs.declared.Refusal.{Refusal}
 use Rattle.house.specs.declared.Refusal.TheVariants.{RouteLength, RouteId, RouteRepeat, EndsDiffer}
+use Rattle.std.specs.Bool.{then_some}
+use Rattle.house.specs.Finds.{Finds, found, nowhere as found_none}
 use Rattle.house.specs.Refusals.{number, site, place, Before, lower, sooner, nearer, First, Clear}
 use Rattle.routes.specs.Routes.{
   source,
@@ -69,12 +74,16 @@ use Rattle.routes.specs.Tests.{
   Spotted,
   nowhere,
   at,
+  ill_sized,
+  InEither,
+  in_old,
+  in_new,
+  in_neither,
   LowIds,
   AnyRepeat,
   some_repeat,
   no_repeat,
 }
-use Rattle.routes.specs.declared.pair.Spot.TheVariants.{Nowhere, At}
 
 abbrev pub refusal : Test → ℕ → ℕ → Refusal
 refusal lengths w p = RouteLength w
@@ -150,7 +159,7 @@ pub record Passed (o n : List ℕ) (k : ℕ) : Type 0 where
 pub passed_none : {o n : List ℕ} → Passed o n 4
 passed_none = record { passed = λ t z p h f. omega (arith, rank_range t) }
 
-pub passed_more : {o n : List ℕ} (t : Test) → Passed o n (rank t) → Spotted (Fails o n t) Nowhere → Passed o n (suc (rank t))
+pub passed_more : {o n : List ℕ} (t : Test) → Passed o n (rank t) → Spotted (Fails o n t) None → Passed o n (suc (rank t))
 passed_more {o} {n} t P (nowhere k) = record { passed = λ u z p h f. go u z p h f (ℕ_discrete (rank u) (rank t)) }
   where
     go : (u : Test) (z : Side) (p : ℕ) → rank u < suc (rank t) → Fails o n u z p → Dec (rank u ≡ rank t) → ⊥
@@ -195,7 +204,7 @@ order ends z y d e f g (inr (s, h)) = inl (omega (arith, end_place f, end_place 
 pub passed_first :
     {o n : List ℕ} (t : Test) {w p : ℕ}
     → Passed o n (rank t)
-    → Spotted (Fails o n t) (At w p)
+    → Spotted (Fails o n t) (Some (w, p))
     → First (RouteFault o n) (refusal t w p)
 passed_first {o} {n} t {w} {p} P (at z d f old here) =
     record { applies = faulted d f; lowest = λ q g b. go (failed g) (before_cases b) }
@@ -227,7 +236,7 @@ at_least : (y : Side) → 1 ≤ no_of y
 at_least old_side = omega arith
 at_least new_side = omega arith
 
-pub at_old : {F : Side → ℕ → Type 0} {p : ℕ} → F old_side p → ((k : ℕ) → k < p → F old_side k → ⊥) → Spotted F (At 1 p)
+pub at_old : {F : Side → ℕ → Type 0} {p : ℕ} → F old_side p → ((k : ℕ) → k < p → F old_side k → ⊥) → Spotted F (Some (1, p))
 at_old f b = at old_side refl f (λ y h k g. omega (arith, at_least y)) b
 
 pub at_new :
@@ -235,14 +244,14 @@ pub at_new :
     → ((k : ℕ) → F old_side k → ⊥)
     → F new_side p
     → ((k : ℕ) → k < p → F new_side k → ⊥)
-    → Spotted F (At 2 p)
+    → Spotted F (Some (2, p))
 at_new {F} a f b = at new_side refl f go b
   where
     go : (y : Side) → no_of y < 2 → (k : ℕ) → F y k → ⊥
     go old_side h = a
     go new_side h = absurd (omega arith)
 
-pub at_none : {F : Side → ℕ → Type 0} → ((k : ℕ) → F old_side k → ⊥) → ((k : ℕ) → F new_side k → ⊥) → Spotted F Nowhere
+pub at_none : {F : Side → ℕ → Type 0} → ((k : ℕ) → F old_side k → ⊥) → ((k : ℕ) → F new_side k → ⊥) → Spotted F None
 at_none {F} a b = nowhere go
   where
     go : (z : Side) (k : ℕ) → F z k → ⊥
@@ -355,55 +364,74 @@ marked_more {l} {met} {i} {v} a h e b f =
     back w t (yes s) = (i, omega arith, cc)
     back w t (no s) = sooner_met (a.back w (sym (get_or-set_other met v w true false s) ∙ t))
 
-pub none_first : {l : List ℕ} {n : ℕ} → n ≡ length l → AnyRepeat l false → FirstAt (Repeat l) (length l) n
-none_first e (no_repeat f) =
-    record { within = omega arith; none_before = λ k h. f k (omega arith); found = λ h. absurd (omega arith) }
+pub first_at : {P : ℕ → Type 0} {n : ℕ} {r : Option ℕ} → Finds P n r → FirstAt P n (unwrap_or r n)
+first_at (found h p f) = record { within = omega arith; none_before = f; found = λ _. p }
+first_at (found_none f) = record { within = omega arith; none_before = f; found = λ h. absurd (omega arith) }
 
-pub record Run (F : Side → ℕ → Type 0) (z : Side) (m r : ℕ) : Type 0 where
-  pub none_before : (k : ℕ) → k < r → F z k → ⊥
-  pub found : r < m → F z r
-  pub none : m ≤ r → (k : ℕ) → F z k → ⊥
+pub no_first : {l : List ℕ} → AnyRepeat l false → Finds (Repeat l) (length l) None
+no_first (no_repeat f) = found_none f
 
--- a run of the test F, which fails for z where P holds below n
-run_by :
-    {F : Side → ℕ → Type 0} {P : ℕ → Type 0} (z : Side) {n m r : ℕ}
-    → n ≡ m
+pub data FirstOn (F : Side → ℕ → Type 0) (z : Side) : Option ℕ → Type 0 where
+  here : {i : ℕ} → F z i → ((k : ℕ) → k < i → F z k → ⊥) → FirstOn F z (Some i)
+  not_here : ((k : ℕ) → F z k → ⊥) → FirstOn F z None
+
+-- by the searches for a number below n of which P holds, if the test fails there and only there
+first_on :
+    {F : Side → ℕ → Type 0} {P : ℕ → Type 0} (z : Side) {n : ℕ} {r : Option ℕ}
     → ((k : ℕ) → k < n → P k → F z k)
     → ((k : ℕ) → F z k → (k < n) × P k)
-    → FirstAt P n r
-    → Run F z m r
-run_by z e into out f =
-    record {
-      none_before = λ k h g. f.none_before k h (out k g).1;
-      found = λ h. into _ (omega arith) (f.found (omega arith));
-      none = λ h k g. f.none_before k (omega (arith, (out k g).0)) (out k g).1;
-    }
+    → Finds P n r
+    → FirstOn F z r
+first_on z into out (found {r} h p f) = here (into r h p) (λ k l g. f k l (out k g).1)
+first_on z into out (found_none f) = not_here (λ k g. f k (out k g).0 (out k g).1)
 
-pub run_ids :
-    {o n : List ℕ} (z : Side) {m r : ℕ}
-    → length (route o n z) ≡ m
-    → FirstAt (λ i. 511 < get_or (route o n z) i 0) (length (route o n z)) r
-    → Run (Fails o n ids) z m r
-run_ids {o} {n} z e f = run_by z e (λ k. high) out f
+pub first_length :
+    {o n : List ℕ} (z : Side) {r : Option ℕ}
+    → r ≡ then_some (ill_sized (length (route o n z))) 0
+    → FirstOn (Fails o n lengths) z r
+first_length {o} {n} z e = rw e (go (dec_lt m 2) (dec_lt 256 m))
+  where
+    m : ℕ
+    m = length (route o n z)
+
+    go : Dec (m < 2) → Dec (256 < m) → FirstOn (Fails o n lengths) z (then_some (ill_sized m) 0)
+    go (yes h) d = rw (lt-ltb m 2 h) (here (short h) (λ k l g. absurd (omega arith)))
+    go (no h) (yes k) = rw (le-ltb m 2 (omega arith), lt-ltb 256 m k) (here (long k) (λ k l g. absurd (omega arith)))
+    go (no h) (no k) = rw (le-ltb m 2 (omega arith), le-ltb 256 m (omega arith)) (not_here (sized z (omega arith) (omega arith)))
+
+pub first_id :
+    {o n : List ℕ} (z : Side) {r : Option ℕ}
+    → Finds (λ i. 511 < get_or (route o n z) i 0) (length (route o n z)) r
+    → FirstOn (Fails o n ids) z r
+first_id {o} {n} z f = first_on z (λ k. high) out f
   where
     out : (k : ℕ) → Fails o n ids z k → (k < length (route o n z)) × (511 < get_or (route o n z) k 0)
     out k (high h g) = (h, g)
 
-pub run_repeats :
-    {o n : List ℕ} (z : Side) {m r : ℕ}
-    → length (route o n z) ≡ m
-    → FirstAt (Repeat (route o n z)) (length (route o n z)) r
-    → Run (Fails o n repeats) z m r
-run_repeats {o} {n} z e f = run_by z e (λ k. twice) out f
+pub first_twice :
+    {o n : List ℕ} (z : Side) {r : Option ℕ}
+    → Finds (Repeat (route o n z)) (length (route o n z)) r
+    → FirstOn (Fails o n repeats) z r
+first_twice {o} {n} z f = first_on z (λ k. twice) out f
   where
     out : (k : ℕ) → Fails o n repeats z k → (k < length (route o n z)) × Repeat (route o n z) k
     out k (twice h g) = (h, g)
 
-pub run_old : {F : Side → ℕ → Type 0} {m i : ℕ} → Run F old_side m i → i < m → Spotted F (At 1 i)
-run_old a h = at_old (a.found h) a.none_before
-
-pub run_new : {F : Side → ℕ → Type 0} {m i k j : ℕ} → Run F old_side m i → m ≤ i → Run F new_side k j → j < k → Spotted F (At 2 j)
-run_new a h b l = at_new (a.none h) (b.found l) b.none_before
-
-pub run_none : {F : Side → ℕ → Type 0} {m i k j : ℕ} → Run F old_side m i → m ≤ i → Run F new_side k j → k ≤ j → Spotted F Nowhere
-run_none a h b l = at_none (a.none h) (b.none l)
+pub either_spotted :
+    {F : Side → ℕ → Type 0} {P Q : Option ℕ → Type 0} {s : Option (ℕ × ℕ)}
+    → ((r : Option ℕ) → P r → FirstOn F old_side r)
+    → ((r : Option ℕ) → Q r → FirstOn F new_side r)
+    → InEither P Q s
+    → Spotted F s
+either_spotted {F} {P} {Q} p q (in_old {i} a) = go (p (Some i) a)
+  where
+    go : FirstOn F old_side (Some i) → Spotted F (Some (1, i))
+    go (here f b) = at_old f b
+either_spotted {F} {P} {Q} p q (in_new {i} a b) = go (p None a) (q (Some i) b)
+  where
+    go : FirstOn F old_side None → FirstOn F new_side (Some i) → Spotted F (Some (2, i))
+    go (not_here n) (here f b) = at_new n f b
+either_spotted {F} {P} {Q} p q (in_neither a b) = go (p None a) (q None b)
+  where
+    go : FirstOn F old_side None → FirstOn F new_side None → Spotted F None
+    go (not_here n) (not_here m) = at_none n m

@@ -11,6 +11,8 @@
 --   state_destination == in no state of a good pair has the destination a rule
 --   walk_clear_judge == where no refusal applies to the walk, none applies to the pair
 --   walk_reply_one   == `walk` has one reply
+use Rattle.std.specs.Prelude.{Result, Ok, Err}
+use Rattle.house.specs.declared.Refusal.{Refusal}
 use Prim.Native.Nat.{ℕ, zero, suc, ◌+◌, ◌-◌, ◌<◌, ◌≤◌}
 use mathlib.Core.Path.{◌≡◌, sym, ap, ◌∙◌}
 use mathlib.Core.Bool.{Bool, true, false, cond}
@@ -27,7 +29,7 @@ use Rattle.routes.specs.Rules.{rule}
 use Rattle.routes.specs.Walk.{State, in_state, place, hop, Twice, Walks, arrived, dropped, looped}
 use Rattle.routes.specs.Replies.{JudgeFault, WalkFault, judged, WalkReply, refused, walked}
 use Rattle.routes.specs.declared.walk.Walked.{Walked}
-use Rattle.routes.specs.declared.walk.Walked.TheVariants.{Arrived, Refused}
+use Rattle.routes.specs.declared.walk.Walked.TheVariants.{Arrived}
 use Rattle.routes.proofs.PairLaws.{clear_good}
 use Rattle.routes.proofs.RuleLaws.{rule_destination}
 
@@ -148,9 +150,9 @@ state_destination {o} {n} g X = go (X (destination o))
 pub walk_clear_judge : {old new set : List ℕ} → Clear (WalkFault old new set) → Clear (JudgeFault old new)
 walk_clear_judge k = record { clear = λ q j. k.clear q (judged j) }
 
-pub walk_reply_one : {old new set : List ℕ} {a b : Walked} → WalkReply old new set a → WalkReply old new set b → a ≡ b
-walk_reply_one (refused f) (refused g) = ap Refused (first_one f g)
+pub walk_reply_one : {old new set : List ℕ} {a b : Result Walked Refusal} → WalkReply old new set a → WalkReply old new set b → a ≡ b
+walk_reply_one (refused f) (refused g) = ap Err (first_one f g)
 walk_reply_one (refused f) (walked k w) = absurd (first_not_clear f k)
 walk_reply_one (walked k w) (refused f) = absurd (first_not_clear f k)
 walk_reply_one {set = set} (walked k v) (walked l w) =
-    walks_one (state_destination (clear_good (walk_clear_judge k)) (has (words set))) v w
+    ap Ok (walks_one (state_destination (clear_good (walk_clear_judge k)) (has (words set))) v w)

@@ -16,6 +16,7 @@
 --   Tabled old new set ws a b m == eight words ws, tables a and b and marks m that are those of a good pair and its set
 --   below            == then the source is an id
 --   reply_stray, reply_walked == and then these are the replies where an id of the set isn't due, and else
+use Rattle.std.specs.Prelude.{Result, Ok, Err, Some, None}
 use Prim.Native.Nat.{ℕ, zero, suc, ◌+◌, ◌-◌, ◌<◌, ◌≤◌}
 use mathlib.Core.Path.{◌≡◌, refl, sym, ap, ◌∙◌}
 use mathlib.Core.Bool.{Bool, true, false, cond}
@@ -28,14 +29,16 @@ use native.Mathlib.Omega.{arith}
 use lib.ListN.{length, get_or, set, replicate, length-set}
 use lib.Seq.{get_or-set_same, get_or-set_other}
 use lib.Dec.{ltb}
+use Rattle.std.proofs.lemmas.List.{get_or_default}
 use borrow.Author.Tests.{lt-ltb, le-ltb}
 use Rattle.house.specs.declared.Refusal.{Refusal}
 use Rattle.house.specs.declared.Refusal.TheVariants.{Unfit, NotDue}
 use Rattle.house.specs.Numbers.{entries, words, eight}
+use Rattle.house.specs.Finds.{Finds, found, nowhere}
 use Rattle.house.specs.Sets.{has}
 use Rattle.house.specs.Refusals.{number, Before, lower, sooner, nearer, First, Clear}
 use Rattle.house.proofs.NumberLaws.{eight_words}
-use Rattle.routes.specs.Routes.{Good, GoodRoute, FirstAt, source, destination}
+use Rattle.routes.specs.Routes.{Good, GoodRoute, source, destination}
 use Rattle.routes.specs.Rules.{rule, due, value, Values, Differ}
 use Rattle.routes.specs.Walk as walks
 use Rattle.routes.specs.Walk.{State, in_state, place, hop, Twice, Walks}
@@ -53,10 +56,8 @@ use Rattle.routes.specs.Replies.{
   refused,
   walked,
 }
-use Rattle.routes.specs.declared.pair.Judged.{Judged}
-use Rattle.routes.specs.declared.pair.Judged.TheVariants.{Sound, Faulty}
 use Rattle.routes.specs.declared.walk.Walked.{Walked}
-use Rattle.routes.specs.declared.walk.Walked.TheVariants.{Arrived, Dropped, Looped, Refused}
+use Rattle.routes.specs.declared.walk.Walked.TheVariants.{Arrived, Dropped, Looped}
 use Rattle.routes.proofs.RuleLaws as rules
 use Rattle.routes.proofs.RuleLaws.{Told, told, handed_destination, value_destination, due_mark}
 use Rattle.house.proofs.RefusalLaws.{unfit_first}
@@ -255,19 +256,13 @@ module _ (t : ℕ → ℕ) {s : ℕ} (h : s < 512) where
         (sym (f.same v (place_below k p)) ∙ rw (le-ltb (t v) 512 l))
     goes_walks (looped w o) = walks.looped (twice_to w) (λ u m l x. o u m l (twice_from x))
 
--- what stands at an index of a list doesn't hang on the default
-get_d_any : (l : List ℕ) (i d e : ℕ) → i < length l → get_or l i d ≡ get_or l i e
-get_d_any [] i d e h = absurd (omega arith)
-get_d_any (x ∷ l) zero d e h = refl
-get_d_any (x ∷ l) (suc i) d e h = get_d_any l i d e (omega arith)
-
 told_rule : {p : Option ℕ} {x : ℕ} → Told p x → cond (ltb x 512) (some x) none ≡ p
 told_rule rules.nothing = refl
 told_rule rules.handed = refl
 told_rule (rules.onward {w} h) = rw (lt-ltb w 512 h)
 
 values_at : {l t : List ℕ} → Values l t → (v : ℕ) → v < 512 → get_or t v 0 ≡ value l v
-values_at {l} {t} x v h = get_d_any t v 0 512 (omega (arith, x.size)) ∙ x.at v h
+values_at {l} {t} x v h = get_or_default t v 0 512 (omega (arith, x.size)) ∙ x.at v h
 
 -- the rule of v on a route from its table
 table_rule :
@@ -314,25 +309,25 @@ values_follow {o} {n} {a} {b} g x y X =
     off false = values_at x (destination o) below ∙ value_destination g.old
 
 pub judged_first :
-    {old new : List ℕ} {a : Judged} {r : Refusal}
-    → a ≡ Faulty r
+    {old new : List ℕ} {a : Result (Unit {0}) Refusal} {r : Refusal}
+    → a ≡ Err r
     → Judges old new a
     → First (JudgeFault old new) r
 judged_first e (sound k) = let z : ◌≡◌ {A = ℕ} 0 1 = cc in absurd (omega arith)
 judged_first {r = r} e (faulty {r = q} f) = let p : q ≡ r = cc in rw p at f
 
-pub judged_clear : {old new : List ℕ} {a : Judged} → a ≡ Sound → Judges old new a → Clear (JudgeFault old new)
+pub judged_clear : {old new : List ℕ} {a : Result (Unit {0}) Refusal} → a ≡ Ok tt → Judges old new a → Clear (JudgeFault old new)
 judged_clear e (sound k) = k
 judged_clear e (faulty f) = let z : ◌≡◌ {A = ℕ} 0 1 = cc in absurd (omega arith)
 
-pub reply_unfit : {old new set : List ℕ} → (length set ≡ 64 → ⊥) → WalkReply old new set (Refused Unfit)
+pub reply_unfit : {old new set : List ℕ} → (length set ≡ 64 → ⊥) → WalkReply old new set (Err Unfit)
 reply_unfit h = refused (unfit_first (not_eight h))
 
 pub reply_judged :
     {old new set : List ℕ} {r : Refusal}
     → length set ≡ 64
     → First (JudgeFault old new) r
-    → WalkReply old new set (Refused r)
+    → WalkReply old new set (Err r)
 reply_judged {old} {new} {set} {r} e f = refused (judge_first_in out judged f)
   where
     out : (q : Refusal) → WalkFault old new set q → JudgeFault old new q ⊎ (7 < number q)
@@ -374,11 +369,11 @@ module _ {old new set ws a b : List ℕ} {m : List Bool} (t : Tabled old new set
   only q (stray {i} h x d) =
       (i, h, record { member = rw the_words x; unmarked = mark i h ∙ d }, refl)
 
-  pub reply_stray : {i : ℕ} → FirstAt (Stray ws m) 512 i → i < 512 → WalkReply old new set (Refused (NotDue 0 i))
-  reply_stray {i} f h =
+  pub reply_stray : {i : ℕ} → Finds (Stray ws m) 512 (Some i) → WalkReply old new set (Err (NotDue 0 i))
+  reply_stray {i} (found h f before) =
       refused
       (record {
-        applies = stray h (rw (sym the_words) (f.found h).member) (sym (mark i h) ∙ (f.found h).unmarked);
+        applies = stray h (rw (sym the_words) f.member) (sym (mark i h) ∙ f.unmarked);
         lowest = λ q w. lowest q (only q w);
       })
     where
@@ -392,19 +387,18 @@ module _ {old new set ws a b : List ℕ} {m : List Bool} (t : Tabled old new set
           go : Before (NotDue 0 j) (NotDue 0 i) → ⊥
           go (lower c) = omega arith
           go (sooner c d) = omega arith
-          go (nearer c d b) = f.none_before j b x
+          go (nearer c d b) = before j b x
 
   pub reply_walked :
-      {i s : ℕ} {r : Walked}
-      → FirstAt (Stray ws m) 512 i
-      → 512 ≤ i
+      {s : ℕ} {r : Walked}
+      → Finds (Stray ws m) 512 None
       → s ≡ source (entries old)
       → Goes (next_in a b (has ws)) s r
-      → WalkReply old new set r
-  reply_walked {i} {s} {r} f h e g =
+      → WalkReply old new set (Ok r)
+  reply_walked {s} {r} (nowhere off) e g =
       walked
       (record { clear = λ q w. none_left (only q w) })
       (goes_walks _ source_below (values_follow good t.old_values t.new_values (has (words set))) (rw (e, the_words) at g))
     where
       none_left : {q : Refusal} → (j : ℕ) × (j < 512) × Stray ws m j × (q ≡ NotDue 0 j) → ⊥
-      none_left (j, k, x, e) = f.none_before j (omega arith) x
+      none_left (j, k, x, e) = off j k x

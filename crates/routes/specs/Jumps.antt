@@ -8,9 +8,12 @@
 --   meeting q p v  == the next meeting node along q after v: the first later id there that is on p too
 --   jump p q v     == v's jump in the order of p: the next meeting node is taken along q, the positions on p
 --   has_jump o n v == v is on both routes and isn't the destination
+--   Meets p l r    == r is the position on p of the first id of l that is on p, or None where there is none
+--   JumpIn p q v r == r is v's jump in the order of p, or None where v has no jump
 --   Ranged z       == from -253 to 255 and not 0
 --   letter z       == the sign of a jump as document 001's letter: F (70) forward, B (66) backward
 use Rattle.std.specs.Prelude.{ℕ, suc, ◌<◌, ◌≤◌, Bool, not, cond, ◌&&◌, List, [], ◌∷◌, length, drop, eqb, ltb, ℤ, pos, negsuc, ◌-ℤ◌}
+use Rattle.std.specs.Prelude.{true, false, ◌≡◌, Option as Answer, Some, None}
 use Rattle.std.proofs.Math.Option.{Option, none, some}
 use Rattle.routes.specs.Routes.{destination}
 
@@ -43,6 +46,14 @@ jump p q v = jump_to p v (meeting q p v)
 unfoldable pub has_jump : List ℕ → List ℕ → ℕ → Bool
 unfolding on
 has_jump o n v = on o v && on n v && not (eqb v (destination o))
+
+pub data Meets (p l : List ℕ) : Answer ℕ → Type 0 where
+  met : {w : ℕ} → first_on p l ≡ some w → Meets p l (Some (position p w))
+  unmet : first_on p l ≡ none → Meets p l None
+
+pub data JumpIn (p q : List ℕ) (v : ℕ) : Answer ℤ → Type 0 where
+  has_one : {z : ℤ} → has_jump p q v ≡ true → jump p q v ≡ some z → JumpIn p q v (Some z)
+  has_none : has_jump p q v ≡ false → JumpIn p q v None
 
 abbrev pub Ranged : ℤ → Type 0
 Ranged (pos k) = (0 < k) × (k ≤ 255)

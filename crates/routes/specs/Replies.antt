@@ -6,7 +6,7 @@
 --   Jumps old new v a       == a is the reply of `jumps`
 --   WalkFault old new set r == the refusal r applies to the walk: 1, 4 to 7, 12
 --   WalkReply old new set a == a is the reply of `walk`
-use Rattle.std.specs.Prelude.{ℕ, ◌<◌, ◌≡◌, true, false, List, length, ℤ}
+use Rattle.std.specs.Prelude.{ℕ, ◌<◌, ◌≡◌, true, false, List, length, Result, Ok, Err}
 use Rattle.std.proofs.Math.Option.{some}
 use Rattle.house.specs.declared.Refusal.{Refusal}
 use Rattle.house.specs.declared.Refusal.TheVariants.{Unfit, NotDue, NoJump}
@@ -17,34 +17,30 @@ use Rattle.routes.specs.Routes.{RouteFault, source, destination}
 use Rattle.routes.specs.Rules.{due}
 use Rattle.routes.specs.Jumps.{jump, has_jump}
 use Rattle.routes.specs.Walk.{in_state, Walks}
-use Rattle.routes.specs.declared.pair.Judged.{Judged}
-use Rattle.routes.specs.declared.pair.Judged.TheVariants.{Sound, Faulty}
-use Rattle.routes.specs.declared.jump.Jumped.{Jumped}
-use Rattle.routes.specs.declared.jump.Jumped.TheVariants.{By, NoJumps}
+use Rattle.routes.specs.declared.jump.NodeJumps.{NodeJumps}
 use Rattle.routes.specs.declared.walk.Walked.{Walked}
-use Rattle.routes.specs.declared.walk.Walked.TheVariants.{Refused}
 
 pub data JudgeFault (old new : List ℕ) : Refusal → Type 0 where
   half_old : (Whole old → ⊥) → JudgeFault old new Unfit
   half_new : (Whole new → ⊥) → JudgeFault old new Unfit
   pair : {r : Refusal} → RouteFault (entries old) (entries new) r → JudgeFault old new r
 
-pub data Judges (old new : List ℕ) : Judged → Type 0 where
-  sound : Clear (JudgeFault old new) → Judges old new Sound
-  faulty : {r : Refusal} → First (JudgeFault old new) r → Judges old new (Faulty r)
+pub data Judges (old new : List ℕ) : Result (Unit {0}) Refusal → Type 0 where
+  sound : Clear (JudgeFault old new) → Judges old new (Ok tt)
+  faulty : {r : Refusal} → First (JudgeFault old new) r → Judges old new (Err r)
 
 pub data JumpFault (old new : List ℕ) (v : ℕ) : Refusal → Type 0 where
   judged : {r : Refusal} → JudgeFault old new r → JumpFault old new v r
   no_jump : has_jump (entries old) (entries new) v ≡ false → JumpFault old new v (NoJump v)
 
-pub data Jumps (old new : List ℕ) (v : ℕ) : Jumped → Type 0 where
-  refused : {r : Refusal} → First (JumpFault old new v) r → Jumps old new v (NoJumps r)
+pub data Jumps (old new : List ℕ) (v : ℕ) : Result NodeJumps Refusal → Type 0 where
+  refused : {r : Refusal} → First (JumpFault old new v) r → Jumps old new v (Err r)
   jumped :
-      {a b : ℤ}
+      {j : NodeJumps}
       → Clear (JumpFault old new v)
-      → jump (entries old) (entries new) v ≡ some a
-      → jump (entries new) (entries old) v ≡ some b
-      → Jumps old new v (By a b)
+      → jump (entries old) (entries new) v ≡ some j.old_order
+      → jump (entries new) (entries old) v ≡ some j.new_order
+      → Jumps old new v (Ok j)
 
 pub data WalkFault (old new set : List ℕ) : Refusal → Type 0 where
   not_eight : (length set ≡ 64 → ⊥) → WalkFault old new set Unfit
@@ -56,10 +52,10 @@ pub data WalkFault (old new set : List ℕ) : Refusal → Type 0 where
       → due (entries old) (entries new) i ≡ false
       → WalkFault old new set (NotDue 0 i)
 
-pub data WalkReply (old new set : List ℕ) : Walked → Type 0 where
-  refused : {r : Refusal} → First (WalkFault old new set) r → WalkReply old new set (Refused r)
+pub data WalkReply (old new set : List ℕ) : Result Walked Refusal → Type 0 where
+  refused : {r : Refusal} → First (WalkFault old new set) r → WalkReply old new set (Err r)
   walked :
       {a : Walked}
       → Clear (WalkFault old new set)
       → Walks (in_state (entries old) (entries new) (has (words set))) (source (entries old)) (destination (entries old)) a
-      → WalkReply old new set a
+      → WalkReply old new set (Ok a)

@@ -5,12 +5,13 @@
 --   Fails o n t z p  == the test t fails for the route z at the place p; the two ends count as the old route's place 0 and
 --                       the new route's place 1
 --   Spotted F s      == s is the first failure of F: the old route before the new, then the first place
+--   ill_sized n      == no route has n ids
+--   InEither P Q s   == s is what a search of the old route, which answers P, and then one of the new route, which answers
+--                       Q, find first: the route's number, and the answer
 --   LowIds l         == each id of l is below 512
 --   AnyRepeat l b    == b says whether an id stands twice in l
-use Rattle.std.specs.Prelude.{ℕ, ◌<◌, ◌≡◌, Bool, true, false, List, length, get_or}
+use Rattle.std.specs.Prelude.{ℕ, ◌<◌, ◌≡◌, Bool, true, false, List, length, get_or, Option, Some, None, ◌||◌, ltb}
 use Rattle.routes.specs.Routes.{source, destination, Repeat, Side, old_side, new_side, no, route}
-use Rattle.routes.specs.declared.pair.Spot.{Spot}
-use Rattle.routes.specs.declared.pair.Spot.TheVariants.{Nowhere, At}
 
 pub data Test : Type 0 where
   lengths ids repeats ends : Test
@@ -23,15 +24,23 @@ pub data Fails (o n : List ℕ) : Test → Side → ℕ → Type 0 where
   first_ids : (source o ≡ source n → ⊥) → Fails o n ends old_side 0
   last_ids : (destination o ≡ destination n → ⊥) → Fails o n ends new_side 1
 
-pub data Spotted (F : Side → ℕ → Type 0) : Spot → Type 0 where
-  nowhere : ((z : Side) (p : ℕ) → F z p → ⊥) → Spotted F Nowhere
+pub data Spotted (F : Side → ℕ → Type 0) : Option (ℕ × ℕ) → Type 0 where
+  nowhere : ((z : Side) (p : ℕ) → F z p → ⊥) → Spotted F None
   at :
       (z : Side) {w p : ℕ}
       → w ≡ no z
       → F z p
       → ((y : Side) → no y < no z → (k : ℕ) → F y k → ⊥)
       → ((k : ℕ) → k < p → F z k → ⊥)
-      → Spotted F (At w p)
+      → Spotted F (Some (w, p))
+
+abbrev pub ill_sized : ℕ → Bool
+ill_sized n = ltb n 2 || ltb 256 n
+
+pub data InEither (P Q : Option ℕ → Type 0) : Option (ℕ × ℕ) → Type 0 where
+  in_old : {i : ℕ} → P (Some i) → InEither P Q (Some (1, i))
+  in_new : {i : ℕ} → P None → Q (Some i) → InEither P Q (Some (2, i))
+  in_neither : P None → Q None → InEither P Q None
 
 pub record LowIds (l : List ℕ) : Type 0 where
   pub low : (i : ℕ) → i < length l → get_or l i 0 < 512

@@ -3,178 +3,147 @@
 // Each test is made over both routes before the next, the old route first. A test that runs through a route stops at the
 // first place where it fails.
 ghost use Rattle.std.specs.Prelude.{◌<◌, ◌≡◌, length, get_or};
+ghost use Rattle.std.specs.Bool.{then_some};
 ghost use Rattle.house.specs.Numbers.{entries};
-ghost use Rattle.routes.specs.Routes.{Repeat, FirstAt};
-ghost use Rattle.routes.specs.Tests.{lengths, ids, repeats, ends, Fails, Spotted, AnyRepeat, LowIds};
+ghost use Rattle.house.specs.Finds.{Finds};
+ghost use Rattle.routes.specs.Routes.{Good, Repeat, source};
+ghost use Rattle.routes.specs.Tests.{ends, Fails, Spotted, ill_sized, InEither, AnyRepeat, LowIds};
 ghost use Rattle.routes.specs.Replies.{Judges};
 
-use house::{Refusal, entry, wide};
+use house::{Refusal, entry};
 
-// What judging a pair of routes answers.
-#[derive(Drop)]
-pub enum Judged {
-    // a good pair
-    Sound,
-    // the refusal that is given
-    Faulty(Refusal),
+// A good pair of routes, as bytes.
+#[derive(Clone, Copy)]
+pub struct Pair<'a> {
+    pub old: &'a [u8],
+    pub new: &'a [u8],
+    ghost good: { Good (entries old.now) (entries new.now) },
 }
 
-// Where one test over both routes fails first: the route, 1 or 2, and the place.
-#[derive(Drop)]
-enum Spot {
-    Nowhere,
-    At(usize, usize),
+impl Pair<'_> {
+    // The id that both routes begin with.
+    pub fn source(&self) -> usize
+        ensures is { result ≡ source (entries self.now.old.now) }
+        ensures node { result < 512 }
+    {
+        usize::from(entry(self.old, 0))
+    }
 }
 
-// Where the pair's lengths are wrong: a route has 2 to 256 ids.
-fn wrong_length(old: &[u8], new: &[u8]) -> Spot
-    ensures { Spotted (Fails (entries old.now) (entries new.now) lengths) result }
+// A list of ids as bytes, each a node: below 512.
+#[derive(Clone, Copy)]
+pub struct Nodes<'a> {
+    pub ids: &'a [u8],
+    ghost low: { LowIds (entries ids.now) },
+}
+
+// What a search finds in the pair first: the route's number, 1 or 2, and what it answers there.
+fn in_either<T: Copy, F: Fn(T) -> Option<usize>>(old: T, new: T, find: F) -> Option<(usize, usize)>
+    requires { F.IsAlwaysCallable find }
+    ensures { InEither (F.post find old) (F.post find new) result }
 {
-    let n = old.len() / 2;
-    if n < 2 || 256 < n {
-        return Spot::At(1, 0);
+    if let Some(i) = find(old) {
+        return Some((1, i));
     }
-    let m = new.len() / 2;
-    if m < 2 || 256 < m {
-        return Spot::At(2, 0);
+    if let Some(i) = find(new) {
+        return Some((2, i));
     }
-    Spot::Nowhere
+    None
 }
 
-// The index of the route's first id over 511, or its length.
-fn over(route: &[u8]) -> usize
-    ensures { FirstAt (λ i. 511 < get_or (entries route.now) i 0) (length (entries route.now)) result }
+// A wrong length, at the place 0: a route has 2 to 256 ids.
+fn wrong_length(route: &[u8]) -> Option<usize>
+    ensures { result ≡ then_some (ill_sized (length (entries route.now))) 0 }
 {
     let n = route.len() / 2;
-    let mut i = 0;
-    while i < n {
-        if 511 < entry(route, i) {
-            return i;
-        }
-        i += 1;
-    }
-    i
+    (n < 2 || 256 < n).then_some(0)
 }
 
-// Where the pair has an id over 511 first.
-fn wrong_id(old: &[u8], new: &[u8]) -> Spot
-    ensures { Spotted (Fails (entries old.now) (entries new.now) ids) result }
+// The index of the route's first id over 511.
+fn over(route: &[u8]) -> Option<usize>
+    ensures { Finds (λ i. 511 < get_or (entries route.now) i 0) (length (entries route.now)) result }
 {
-    let i = over(old);
-    if i < old.len() / 2 {
-        return Spot::At(1, i);
-    }
-    let j = over(new);
-    if j < new.len() / 2 {
-        return Spot::At(2, j);
-    }
-    Spot::Nowhere
+    (0..route.len() / 2).find(|&i| entry(route, i) > 511)
 }
 
 // Whether an id stands twice in the route, in one run with a mark for each id met.
-fn any_repeat(route: &[u8]) -> bool
-    requires { LowIds (entries route.now) }
-    ensures { AnyRepeat (entries route.now) result }
+fn any_repeat(route: Nodes) -> bool
+    ensures { AnyRepeat (entries route.entry.ids.now) result }
 {
-    let n = route.len() / 2;
     let mut met = [false; 512];
-    let mut i = 0;
-    while i < n {
-        let v = wide(entry(route, i));
+    for i in 0..route.ids.len() / 2 {
+        let v = usize::from(entry(route.ids, i));
         if met[v] {
             return true;
         }
         met[v] = true;
-        i += 1;
     }
     false
 }
 
-// The index of the route's first repeat, or its length: by rising index, each id against all before it, and the search is
-// left at the first repeat found.
-fn first_repeat(route: &[u8]) -> usize
-    ensures { FirstAt (Repeat (entries route.now)) (length (entries route.now)) result }
+// The index of the route's first repeat: by rising index, each id against all before it, and the search is left at the
+// first repeat found.
+fn first_repeat(route: &[u8]) -> Option<usize>
+    ensures { Finds (Repeat (entries route.now)) (length (entries route.now)) result }
 {
-    let n = route.len() / 2;
-    let mut i = 0;
-    'search: while i < n {
-        let v = entry(route, i);
-        let mut j = 0;
-        while j < i {
-            if entry(route, j) == v {
-                break 'search;
+    // Kept: two nested scans left by a label with the index of the repeat, a form that document 01 names.
+    'search: {
+        for i in 0..route.len() / 2 {
+            let v = entry(route, i);
+            for j in 0..i {
+                if entry(route, j) == v {
+                    break 'search Some(i);
+                }
             }
-            j += 1;
         }
-        i += 1;
+        None
     }
-    i
 }
 
-// The index of the route's first repeat, or its length. Only a route that has a repeat pays for the search.
-fn repeat(route: &[u8]) -> usize
-    requires { LowIds (entries route.now) }
-    ensures { FirstAt (Repeat (entries route.now)) (length (entries route.now)) result }
+// The index of the route's first repeat. Only a route that has a repeat pays for the search.
+fn repeat(route: Nodes) -> Option<usize>
+    ensures { Finds (Repeat (entries route.entry.ids.now)) (length (entries route.entry.ids.now)) result }
 {
     if any_repeat(route) {
-        return first_repeat(route);
+        return first_repeat(route.ids);
     }
-    route.len() / 2
-}
-
-// Where a route of the pair has a repeat first.
-fn wrong_repeat(old: &[u8], new: &[u8]) -> Spot
-    requires { LowIds (entries old.now) × LowIds (entries new.now) }
-    ensures { Spotted (Fails (entries old.now) (entries new.now) repeats) result }
-{
-    let i = repeat(old);
-    if i < old.len() / 2 {
-        return Spot::At(1, i);
-    }
-    let j = repeat(new);
-    if j < new.len() / 2 {
-        return Spot::At(2, j);
-    }
-    Spot::Nowhere
+    None
 }
 
 // Which of the pair's ends differ: the first ids, as the old route's place 0, or the last, as the new one's place 1.
-fn wrong_end(old: &[u8], new: &[u8]) -> Spot
+fn wrong_end(old: &[u8], new: &[u8]) -> Option<(usize, usize)>
     requires { (0 < length (entries old.now)) × (0 < length (entries new.now)) }
     ensures { Spotted (Fails (entries old.now) (entries new.now) ends) result }
 {
     if entry(old, 0) != entry(new, 0) {
-        return Spot::At(1, 0);
+        return Some((1, 0));
     }
     if entry(old, old.len() / 2 - 1) != entry(new, new.len() / 2 - 1) {
-        return Spot::At(2, 1);
+        return Some((2, 1));
     }
-    Spot::Nowhere
+    None
 }
 
 // Judges a pair of routes given as bytes: sound, or the refusal that is given, of those that apply the one with the lowest
 // number, then the old route before the new, then the first place. The tests come in the order of their numbers, and each
 // answers its own first failure.
-pub fn judge(old: &[u8], new: &[u8]) -> Judged
+pub fn judge(old: &[u8], new: &[u8]) -> Result<(), Refusal>
     ensures { Judges old.now new.now result }
 {
-    if old.len() % 2 != 0 {
-        return Judged::Faulty(Refusal::Unfit);
+    if old.len() % 2 != 0 || new.len() % 2 != 0 {
+        return Err(Refusal::Unfit);
     }
-    if new.len() % 2 != 0 {
-        return Judged::Faulty(Refusal::Unfit);
+    if let Some((w, _)) = in_either(old, new, wrong_length) {
+        return Err(Refusal::RouteLength(w));
     }
-    if let Spot::At(w, _) = wrong_length(old, new) {
-        return Judged::Faulty(Refusal::RouteLength(w));
+    if let Some((w, i)) = in_either(old, new, over) {
+        return Err(Refusal::RouteId(w, i));
     }
-    if let Spot::At(w, i) = wrong_id(old, new) {
-        return Judged::Faulty(Refusal::RouteId(w, i));
+    if let Some((w, i)) = in_either(Nodes { ids: old }, Nodes { ids: new }, repeat) {
+        return Err(Refusal::RouteRepeat(w, i));
     }
-    if let Spot::At(w, i) = wrong_repeat(old, new) {
-        return Judged::Faulty(Refusal::RouteRepeat(w, i));
+    if let Some((_, p)) = wrong_end(old, new) {
+        return Err(Refusal::EndsDiffer(p));
     }
-    if let Spot::At(_, p) = wrong_end(old, new) {
-        return Judged::Faulty(Refusal::EndsDiffer(p));
-    }
-    Judged::Sound
+    Ok(())
 }

@@ -3,10 +3,19 @@ ghost use Rattle.std.specs.Prelude.{◌≡◌};
 ghost use Rattle.house.specs.Numbers.{entries};
 ghost use Rattle.routes.specs.Rules.{Values, Differ, change_of, tally, apart};
 
-use house::wide;
+use house::entry;
+use std::array::from_fn;
+
+// The next value of a node that isn't on the route.
+// Kept: a number beside the ids; the definition `value` says 512 and 513, and graph's searches and the C calls of the
+// benchmark take the tables as numbers.
+pub const NOTHING: u16 = 512;
+
+// The next value of the route's last node, which hands off.
+pub const HANDED_OFF: u16 = 513;
 
 // What happens to a node's rule.
-#[derive(Drop)]
+#[derive(Clone, Copy, Debug, PartialEq, Eq)]
 pub enum Change {
     Kept,
     Install,
@@ -19,13 +28,11 @@ pub enum Change {
 pub fn next_values(route: &[u8]) -> [u16; 512]
     ensures { Values (entries route.now) result }
 {
-    let mut values = [512u16; 512];
-    let mut after: u16 = 513;
-    let mut i = route.len() / 2;
-    while 0 < i {
-        i -= 1;
-        let id = house::entry(route, i);
-        let v = wide(id);
+    let mut values = [NOTHING; 512];
+    let mut after = HANDED_OFF;
+    for i in (0..route.len() / 2).rev() {
+        let id = entry(route, i);
+        let v = usize::from(id);
         if v < 512 {
             values[v] = after;
         }
@@ -34,50 +41,28 @@ pub fn next_values(route: &[u8]) -> [u16; 512]
     values
 }
 
-// What happens to the rule of a node whose next value goes from a to b: 512 is a node with no rule.
+// What happens to the rule of a node whose next value goes from a to b.
 pub fn kind(a: u16, b: u16) -> Change
     ensures { result ≡ change_of a b }
 {
-    if a == b {
-        return Change::Kept;
+    match (a, b) {
+        _ if a == b => Change::Kept,
+        (NOTHING, _) => Change::Install,
+        (_, NOTHING) => Change::Remove,
+        _ => Change::Switch,
     }
-    if a == 512 {
-        return Change::Install;
-    }
-    if b == 512 {
-        return Change::Remove;
-    }
-    Change::Switch
 }
 
 // A mark for each node at which the two tables differ: with the tables of a good pair of routes, for each due node.
 pub fn due_nodes(old: &[u16; 512], new: &[u16; 512]) -> [bool; 512]
     ensures { Differ old.now new.now result }
 {
-    let a: &[u16] = old;
-    let b: &[u16] = new;
-    let mut due = [false; 512];
-    let mut v = 0;
-    while v < 512 {
-        due[v] = a[v] != b[v];
-        v += 1;
-    }
-    due
+    from_fn(|v| old[v] != new[v])
 }
 
 // At how many nodes the two tables differ: with the tables of a good pair of routes, how many nodes are due.
 pub fn due_count(old: &[u16; 512], new: &[u16; 512]) -> usize
     ensures { result ≡ tally 512 (apart old.now new.now) }
 {
-    let a: &[u16] = old;
-    let b: &[u16] = new;
-    let mut count: usize = 0;
-    let mut v = 0;
-    while v < 512 {
-        if a[v] != b[v] {
-            count += 1;
-        }
-        v += 1;
-    }
-    count
+    (0..512).filter(|&v| old[v] != new[v]).count()
 }

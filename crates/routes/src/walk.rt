@@ -1,16 +1,16 @@
 // The walk from the source in one state.
 ghost use Rattle.std.specs.Prelude.{◌≡◌, ◌<◌};
+ghost use Rattle.house.specs.Finds.{Finds};
 ghost use Rattle.house.specs.Sets.{has};
 ghost use Rattle.routes.specs.Replies.{WalkReply};
-ghost use Rattle.routes.specs.Routes.{FirstAt};
 ghost use Rattle.routes.specs.WalkParts.{next_in, Goes, Stray};
 
-use crate::pair::{Judged, judge};
-use crate::rule::{due_nodes, next_values};
-use house::{Refusal, entry, member, set_of, wide};
+use crate::pair::judge;
+use crate::rule::{HANDED_OFF, NOTHING, due_nodes, next_values};
+use house::{IdSet, Refusal, entry};
 
 // What the walk answers. Each carries the hops made, the hop back included.
-#[derive(Drop)]
+#[derive(Clone, Copy, Debug, PartialEq, Eq)]
 pub enum Walked {
     // at the destination: hops
     Arrived(usize),
@@ -18,79 +18,81 @@ pub enum Walked {
     Dropped(usize, usize),
     // at the first node come to a second time: node, hops
     Looped(usize, usize),
-    Refused(Refusal),
 }
 
-// The first id of the set that isn't marked as due, 512 where there is none: the ids are tried by rising number.
-fn stray(set: &[u64; 8], due: &[bool; 512]) -> usize
-    ensures { FirstAt (Stray set.now due.now) 512 result }
+// The first id of the set that isn't marked as due: the ids are tried by rising number.
+fn stray(set: &IdSet, due: &[bool; 512]) -> Option<usize>
+    ensures { Finds (Stray set.now.words due.now) 512 result }
 {
-    let mut i = 0;
-    while i < 512 {
-        if member(set, i) {
-            if !due[i] {
-                return i;
+    (0..512).find(|&i| set.contains(i) && !due[i])
+}
+
+// A state: the tables of the two routes, and the set of the nodes that have changed.
+#[derive(Clone, Copy)]
+struct State<'a> {
+    old: &'a [u16; 512],
+    new: &'a [u16; 512],
+    changed: &'a IdSet,
+}
+
+impl State<'_> {
+    // The next value of the node `v`: by the new table where `v` has changed, else by the old one.
+    fn next(&self, v: usize) -> u16
+        requires { v < 512 }
+        ensures { result ≡ next_in self.now.old.now self.now.new.now (has self.now.changed.now.words) v }
+    {
+        if self.changed.contains(v) {
+            self.new[v]
+        } else {
+            self.old[v]
+        }
+    }
+
+    // What the walk from `s` by the next values comes to. Each node come to is marked before it is left, so the first marked
+    // one come to is the first come to a second time; a node is marked once, so the walk ends.
+    fn walk_from(&self, s: usize) -> Walked
+        requires { s < 512 }
+        ensures { Goes (next_in self.now.old.now self.now.new.now (has self.now.changed.now.words)) s result }
+    {
+        let mut seen = [false; 512];
+        let mut at = s;
+        let mut hops: usize = 0;
+        while !seen[at] {
+            seen[at] = true;
+            let to = self.next(at);
+            if to == HANDED_OFF {
+                return Walked::Arrived(hops);
             }
+            if to >= NOTHING {
+                return Walked::Dropped(at, hops);
+            }
+            at = usize::from(to);
+            hops += 1;
         }
-        i += 1;
+        Walked::Looped(at, hops)
     }
-    i
-}
-
-// The next value of the node `v` in the state `set`: by the new table where `v` is in it, else by the old one.
-fn next_in(old: &[u16; 512], new: &[u16; 512], set: &[u64; 8], v: usize) -> usize
-    requires { v < 512 }
-    ensures { result ≡ next_in old.now new.now (has set.now) v }
-{
-    if member(set, v) {
-        return wide(new[v]);
-    }
-    wide(old[v])
-}
-
-// What the walk from `s` by the next values in the state `set` comes to. Each node come to is marked before it is left, so
-// the first marked one come to is the first come to a second time; a node is marked once, so the walk ends.
-fn go(old: &[u16; 512], new: &[u16; 512], set: &[u64; 8], s: usize) -> Walked
-    requires { s < 512 }
-    ensures { Goes (next_in old.now new.now (has set.now)) s result }
-{
-    let mut seen = [false; 512];
-    let mut at = s;
-    let mut hops: usize = 0;
-    while !seen[at] {
-        seen[at] = true;
-        let to = next_in(old, new, set, at);
-        if to == 513 {
-            return Walked::Arrived(hops);
-        }
-        if to >= 512 {
-            return Walked::Dropped(at, hops);
-        }
-        at = to;
-        hops += 1;
-    }
-    Walked::Looped(at, hops)
 }
 
 // Walks the pair of routes from its source in the state `set`, a set of ids given as 64 bytes: arrived, dropped or looped,
 // with the hops made; or the refusal that is given. 1 comes first, then those of the pair in `judge`'s order, then 12 with
 // the lowest id of the set that isn't due: the tests come in the order of their numbers.
-pub fn walk(old: &[u8], new: &[u8], set: &[u8]) -> Walked
+pub fn walk(old: &[u8], new: &[u8], set: &[u8]) -> Result<Walked, Refusal>
     ensures { WalkReply old.now new.now set.now result }
 {
     if set.len() != 64 {
-        return Walked::Refused(Refusal::Unfit);
+        return Err(Refusal::Unfit);
     }
-    if let Judged::Faulty(r) = judge(old, new) {
-        return Walked::Refused(r);
-    }
-    let changed = set_of(set);
+    judge(old, new)?;
     let was = next_values(old);
     let will = next_values(new);
-    let due = due_nodes(&was, &will);
-    let i = stray(&changed, &due);
-    if i < 512 {
-        return Walked::Refused(Refusal::NotDue(0, i));
+    let changed = IdSet::from_bytes(set);
+    if let Some(i) = stray(&changed, &due_nodes(&was, &will)) {
+        return Err(Refusal::NotDue(0, i));
     }
-    go(&was, &will, &changed, wide(entry(old, 0)))
+    let state = State {
+        old: &was,
+        new: &will,
+        changed: &changed,
+    };
+    Ok(state.walk_from(usize::from(entry(old, 0))))
 }

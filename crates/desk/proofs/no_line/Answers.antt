@@ -1,24 +1,13 @@
--- `desk::no_line` meets its contract: the word, the refusal's three numbers, the ids of the set and a line feed, one behind the other, are
--- the line.
+-- `no_line` meets its contract: the word, the refusal's three numbers, the ids of the set and a line feed, one behind the other,
+-- are the line.
 use native.Mathlib.Omega.{arith}
+use borrow.Author.Rules.{rules}
 use Rattle.desk.proofs.LineLaws.{put_join, line_ends}
 use Rattle.desk.proofs.ProgramLaws.{line_told}
 use Rattle.desk.proofs.no_line.Goals as goal
 
 pub returns : goal.returns
 returns c =
-    line_told c.args.r c.tell-told.ensures
-    (line_ends c.put-a.ensures
-    (put_join c.put_number-b.ensures.0
-    (put_join c.put_number-c.ensures.0 (put_join c.put_number-d.ensures.0 c.put_ids-e.ensures.0)))
-    c.put.ensures
-    (omega (
-      arith,
-      c.requires,
-      c.put-a.ensures.next,
-      c.put_number-b.ensures.1,
-      c.put_number-c.ensures.1,
-      c.put_number-d.ensures.1,
-      c.put_ids-e.ensures.1,
-      c.put.ensures.next,
-    )))
+    let ns = put_join c.number.ensures.put (put_join c.number-2.ensures.put (put_join c.number-3.ensures.put c.ids.ensures.put)) in
+    let x = line_told c.args.r c.from-told.ensures (line_ends c.text.ensures.put ns c.text-2.ensures.put (omega arith)) in
+    search rules

@@ -1,39 +1,46 @@
--- `planned` meets its contract: the planner's refusal has the NO line, and what it gave is written, since it is a sound change.
-use mathlib.Core.Path.{sym}
+-- `planned` meets its contract: what is refused is refused, and what the planner gave is written, since it is a sound change.
 use native.Mathlib.Omega.{arith}
+use mathlib.Core.Path.{◌≡◌, refl, sym}
 use lib.Seq.{length-take-le}
-use Rattle.desk.proofs.ProgramLaws.{Front, plan_fronts, plan_refused, plan_written, plan_is_written}
+use Rattle.std.specs.Prelude.{◌*◌, ◌≤◌, length, Err}
+use borrow.Author.Rules.{rules}
+use Rattle.desk.proofs.ProgramLaws.{wrong_refused, plan_refused, plan_within, plan_written}
 use Rattle.desk.proofs.planned.Goals as goal
-use Rattle.desk.proofs.planned.Goals.{In-Given}
+use Rattle.desk.proofs.planned.Goals.{In_ok-held, In_ok-given}
 
--- the plan stands at the fronts of the two arrays
-fronts : (c : In-Given) → Front c.in-Given.count c.plan-plan.new.ids × Front c.in-Given.rounds c.plan-plan.new.sizes
-fronts c = plan_fronts c.plan-plan.ensures c.in-Given.is
+-- the plan lies within the two arrays
+within : (c : In_ok-given) → (2 * c.in_ok-given.given.count ≤ length c.plan.new.ids) × (2 * c.in_ok-given.given.rounds ≤ length c.plan.new.sizes)
+within c = plan_within (rw c.in_ok-given.was at c.plan.ensures)
 
-pub returns-in_default : goal.returns-in_default
-returns-in_default c = plan_refused c.plan-plan.ensures c.in_default.is c.not_planned.ensures c.no_line.ensures
+pub returns-in_err-held : goal.returns-in_err-held
+returns-in_err-held c =
+    let e : c.from_residual.result ≡ Err c.in_err-held.field-0.0 = search rules in
+    rw e (wrong_refused c.in_err-held.ensures.refused, refl)
+
+pub returns-in_err-given : goal.returns-in_err-given
+returns-in_err-given c =
+    let e : c.from_residual-in_err-given.result ≡ Err c.in_err-given.field-0.0 = search rules in
+    rw e (plan_refused (rw (sym c.old-old.ensures, sym c.new-new.ensures) at c.in_ok-held.ensures.held) (rw c.in_err-given.was at c.plan.ensures), refl)
 
 pub overflow_mul-ids : goal.overflow_mul-ids
-overflow_mul-ids c = omega (arith, (fronts (goal.at.overflow_mul-ids c).In-Given).0.small)
+overflow_mul-ids c = omega (arith, (within (goal.at.overflow_mul-ids c).In_ok-given).0)
 
 pub slice_bounds-ids-end : goal.slice_bounds-ids-end
-slice_bounds-ids-end c = (fronts (goal.at.slice_bounds-ids-end c).In-Given).0.within
+slice_bounds-ids-end c = (within (goal.at.slice_bounds-ids-end c).In_ok-given).0
 
 pub slice_bounds-write-end : goal.slice_bounds-write-end
-slice_bounds-write-end c = sym (length-take-le _ _ (fronts (goal.at.slice_bounds-write-end c).In-Given).0.within)
+slice_bounds-write-end c = sym (length-take-le _ _ (within (goal.at.slice_bounds-write-end c).In_ok-given).0)
 
 pub overflow_mul-sizes : goal.overflow_mul-sizes
-overflow_mul-sizes c = omega (arith, (fronts (goal.at.overflow_mul-sizes c).In-Given).1.small)
+overflow_mul-sizes c = omega (arith, (within (goal.at.overflow_mul-sizes c).In_ok-given).1)
 
 pub slice_bounds-sizes-end : goal.slice_bounds-sizes-end
-slice_bounds-sizes-end c = (fronts (goal.at.slice_bounds-sizes-end c).In-Given).1.within
+slice_bounds-sizes-end c = (within (goal.at.slice_bounds-sizes-end c).In_ok-given).1
 
 pub slice_bounds-write-end-2 : goal.slice_bounds-write-end-2
-slice_bounds-write-end-2 c = sym (length-take-le _ _ (fronts (goal.at.slice_bounds-write-end-2 c).In-Given).1.within)
-
-pub returns-in_default-reply : goal.returns-in_default-reply
-returns-in_default-reply c =
-    absurd (plan_is_written c.plan-plan.ensures c.in-Given.is c.write-reply.ensures c.in_default-reply.is (omega (arith, c.requires)))
+slice_bounds-write-end-2 c = sym (length-take-le _ _ (within (goal.at.slice_bounds-write-end-2 c).In_ok-given).1)
 
 pub returns : goal.returns
-returns c = plan_written c.plan-plan.ensures c.in-Given.is c.write-reply.ensures c.in-Written.is
+returns c =
+    plan_written (rw (sym c.old-old.ensures, sym c.new-new.ensures) at c.in_ok-held.ensures.held) (rw c.in_ok-given.was at c.plan.ensures)
+    c.write.ensures (omega arith)

@@ -1,8 +1,8 @@
--- `jiwasampu::refused` meets its contract: the lanes are the three numbers that `tell` tells.
+-- `jiwasampu::refused` meets its contract: the lanes are the three numbers that are told of it.
 use mathlib.Core.Path.{refl, ◌∙◌}
 use Rattle.jiwasampu.proofs.refused.Goals as goal
 
 pub returns : goal.returns
 returns c =
-    let (n, w, p) = c.tell-told.ensures in
-    c.pack.ensures ∙ rw (n, w, p) refl
+    let t = c.from-told.ensures in
+    c.pack.ensures ∙ rw (t.number_is, t.site_is, t.place_is) refl

@@ -1,22 +1,21 @@
 use Prim.Native.Nat.{ℕ}
 use native.Mathlib.Omega.{arith}
 use mathlib.Core.Path.{◌≡◌}
-use Rattle.plans.proofs.SeekLaws.{code_is, code_other, sought_begins, sought_skips, sought_takes}
+use Rattle.plans.proofs.SeekLaws.{seeks_begins, seeks_skips, seeks_takes}
 use Rattle.plans.proofs.seek.Goals as goal
+use Rattle.plans.proofs.seek.Goals.{then-wanted, else-wanted}
 
 pub loop-v-init : goal.loop-v-init
-loop-v-init c = (sought_begins _ c.requires, omega arith)
-
-pub loop-v-preserved-then-code_at-sought : goal.loop-v-preserved-then-code_at-sought
-loop-v-preserved-then-code_at-sought c =
-    (sought_skips c.loop-v.invariant.0 c.loop-v-test.true (code_other _ c.code_at.ensures c.if-code_at-sought.true), omega arith)
-
-pub bounds-choice-v : goal.bounds-choice-v
-bounds-choice-v c = omega (arith, c.loop-v.invariant.0.size)
+loop-v-init g c = seeks_begins _ c.told-choice
 
 pub loop-v-preserved : goal.loop-v-preserved
-loop-v-preserved c =
-    (sought_takes c.loop-v.invariant.0 c.loop-v-test.true (code_is _ c.code_at.ensures c.if-code_at-sought.false), omega arith)
+loop-v-preserved g c =
+    let s = c.loop-v.invariant in
+    let h = c.loop-v-test.true in
+    elim c.if-wanted.branch [
+      | then-wanted w ↦ rw w.choice-is (seeks_takes s h w.if-wanted.ensures)
+      | else-wanted w ↦ rw w.choice-is (seeks_skips s h w.if-wanted.ensures)
+    ]
 
 pub returns : goal.returns
-returns c = let e : ◌≡◌ {A = ℕ} c.loop-v.v 512 = omega arith in rw e at c.loop-v.invariant.0
+returns g c = let e : ◌≡◌ {A = ℕ} c.loop-v.v 512 = omega arith in rw e at c.loop-v.invariant

@@ -4,14 +4,14 @@ use native.Mathlib.Omega.{arith}
 use Rattle.plans.proofs.WriteLaws.{entering_begins, round_fits, wrote_none, wrote_some}
 use Rattle.plans.proofs.write_round.Goals as goal
 
-pub enter_all-n-requires : goal.enter_all-n-requires
-enter_all-n-requires c = entering_begins c.requires
+pub enter_all-count-requires : goal.enter_all-count-requires
+enter_all-count-requires c = entering_begins c.requires
 
-pub returns-then-n-m : goal.returns-then-n-m
-returns-then-n-m c = wrote_none c.requires c.enter_all-n.ensures c.if-n-m.true
+pub returns-then-count-done : goal.returns-then-count-done
+returns-then-count-done c = wrote_none c.requires (rw c.if-count-done.true at c.enter_all-count.ensures)
 
-pub overflow_cast-n : goal.overflow_cast-n
-overflow_cast-n c = omega (arith, round_fits c.requires c.enter_all-n.ensures)
+pub overflow_cast-count : goal.overflow_cast-count
+overflow_cast-count c = omega (arith, round_fits c.requires c.enter_all-count.ensures)
 
 pub returns : goal.returns
-returns c = wrote_some c.requires c.enter_all-n.ensures (λ e. omega arith) c.put_entry.ensures
+returns c = wrote_some c.requires c.enter_all-count.ensures (λ e. omega arith) c.put_entry.ensures

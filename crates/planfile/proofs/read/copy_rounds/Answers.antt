@@ -1,10 +1,11 @@
+use Prim.Native.Nat.{ℕ, ◌/◌}
 use mathlib.Core.Path.{◌≡◌, ap, ◌∙◌}
 use native.Mathlib.Nat.{add-zero}
 use native.Mathlib.Omega.{arith}
-use Rattle.house.proofs.NumberLaws.{Under}
 use Rattle.planfile.specs.File.{size_at}
 use Rattle.planfile.proofs.RecordLaws.{Right, head_at}
-use Rattle.planfile.proofs.ReadLaws.{copying_none, copying_right, copying_more, copying_end}
+use Rattle.planfile.proofs.StoreLaws.{are_bytes}
+use Rattle.planfile.proofs.ReadLaws.{copying_none, copying_right, copying_more}
 use Rattle.planfile.proofs.read.copy_rounds.Goals as goal
 use Rattle.planfile.proofs.read.copy_rounds.Goals.{After-entry-size}
 
@@ -23,24 +24,19 @@ pub slice_bounds-store-end : goal.slice_bounds-store-end
 slice_bounds-store-end c =
     omega (
       arith,
-      c.wide.ensures,
+      c.from.ensures,
       size_read (goal.at.slice_bounds-store-end c).After-entry-size,
       (copying_right c.requires c.loop-at.invariant c.loop-at-test.true).within,
     )
 
 pub loop-at-preserved : goal.loop-at-preserved
 loop-at-preserved c =
-    -- the file is bytes
-    let low : Under 256 c.args.file.now = record { below = λ i. omega (arith, c.type_inv.file i) } in
     let size : c.entry-size.result ≡ size_at c.args.file.now c.loop-at.at =
     size_read (goal.at.loop-at-preserved c).After-entry-size
     in
-    copying_more c.requires c.loop-at.invariant low c.loop-at-test.true
-    (c.wide.ensures ∙ size)
+    copying_more c.requires c.loop-at.invariant (are_bytes c.type_inv.file) c.loop-at-test.true
+    (c.from.ensures ∙ size)
     size
-    (c.wide-in-loop-at.ensures ∙ size)
+    (c.from-in-loop-at.ensures ∙ ap (λ (x : ℕ). x / 2) size)
     c.store.ensures
     c.put_entry.ensures
-
-pub returns : goal.returns
-returns c = copying_end c.requires c.loop-at.invariant c.loop-at-test.false

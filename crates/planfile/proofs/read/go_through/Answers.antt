@@ -1,53 +1,49 @@
-use mathlib.Core.Path.{refl}
-use native.Mathlib.Omega.{arith}
-use Rattle.planfile.specs.File.{Expects, at_front, Ended}
-use Rattle.planfile.proofs.FileLaws.{not_ended}
-use Rattle.planfile.proofs.ReadLaws.{gone_three, gone_more, gone_end, goes_on, not_body, scan_wrong, body_next}
+use mathlib.Core.Path.{◌≡◌, refl}
+use borrow.Author.Rules.{rules}
+use Rattle.std.specs.Prelude.{Err}
+use Rattle.planfile.specs.File.{Expects, at_front}
+use Rattle.planfile.proofs.ReadLaws.{gone_three, gone_more, gone_end, goes_on, scan_wrong, answers}
 use Rattle.planfile.proofs.read.go_through.Goals as goal
-use Rattle.planfile.proofs.read.go_through.Goals.{In-Body, In-Body-record_at}
+use Rattle.planfile.proofs.read.go_through.Goals.{In-Some, In-Some-2}
 
 -- the second and the third record are expected behind those before them
-at_second : (c : In-Body) → Expects c.args.file.now c.in-Body.second 2
-at_second c = goes_on (at_front refl refl) c.in-Body.ensures refl
+at_second : (c : In-Some) → Expects c.args.file.now c.in-Some.old.next 2
+at_second c = goes_on (at_front refl refl) (answers c.in_ok-old.ensures c.in-Some.is) refl
 
-at_third : (c : In-Body-record_at) → Expects c.args.file.now c.in-Body-record_at.third 3
-at_third c = goes_on (goes_on (at_front refl refl) c.in-Body.ensures refl) c.in-Body-record_at.ensures refl
+at_third : (c : In-Some-2) → Expects c.args.file.now c.in-Some-2.new.next 3
+at_third c =
+    goes_on (goes_on (at_front refl refl) (answers c.in_ok-old.ensures c.in-Some.is) refl)
+    (answers c.in_ok-new.ensures c.in-Some-2.is)
+    refl
 
-pub returns-in_default : goal.returns-in_default
-returns-in_default c =
-    scan_wrong (at_front refl refl) c.record_at.ensures (not_body _ c.in_default.not-Body) (not_ended (omega arith))
+pub returns-in_err-old : goal.returns-in_err-old
+returns-in_err-old c =
+    let e : c.from_residual.result ≡ Err c.in_err-old.field-0.0 = search rules in
+    rw e (scan_wrong (at_front refl refl) c.in_err-old.ensures)
 
-pub returns-in_default-record_at : goal.returns-in_default-record_at
-returns-in_default-record_at c =
-    scan_wrong (at_second (goal.at.returns-in_default-record_at c).In-Body)
-    c.record_at-2.ensures
-    (not_body _ c.in_default-record_at.not-Body)
-    (not_ended (omega arith))
+pub returns-in_err-new : goal.returns-in_err-new
+returns-in_err-new c =
+    let e : c.from_residual-in_err-new.result ≡ Err c.in_err-new.field-0.0 = search rules in
+    rw e (scan_wrong (at_second (goal.at.returns-in_err-new c).In-Some) c.in_err-new.ensures)
 
-pub returns-in_default-record_at-2 : goal.returns-in_default-record_at-2
-returns-in_default-record_at-2 c =
-    scan_wrong (at_third (goal.at.returns-in_default-record_at-2 c).In-Body-record_at)
-    c.record_at-3.ensures
-    (not_body _ c.in_default-record_at-2.not-Body)
-    (not_ended (omega arith))
+pub returns-in_err-mode : goal.returns-in_err-mode
+returns-in_err-mode c =
+    let e : c.from_residual-in_err-mode.result ≡ Err c.in_err-mode.field-0.0 = search rules in
+    rw e (scan_wrong (at_third (goal.at.returns-in_err-mode c).In-Some-2) c.in_err-mode.ensures)
 
-pub loop-at-init : goal.loop-at-init
-loop-at-init c = gone_three c.in-Body.ensures c.in-Body-record_at.ensures c.in-Body-record_at-2.ensures
+pub loop-round-init : goal.loop-round-init
+loop-round-init c =
+    gone_three (answers c.in_ok-old.ensures c.in-Some.is)
+    (answers c.in_ok-new.ensures c.in-Some-2.is)
+    (answers c.in_ok-mode.ensures c.in-Some-3.is)
 
-pub returns-in_default-record_at-3 : goal.returns-in_default-record_at-3
-returns-in_default-record_at-3 c =
-    -- within the file it does not end
-    let within : Ended c.args.file.now c.loop-at.at 4 → ⊥ = λ e. omega (arith, e.all_read, c.loop-at-test.true) in
-    scan_wrong c.loop-at.invariant.expected
-    c.record_at-in-loop-at.ensures
-    (not_body _ c.in_default-record_at-3.not-Body)
-    within
+pub returns-in_err-round : goal.returns-in_err-round
+returns-in_err-round c =
+    let e : c.from_residual-in_err-round.result ≡ Err c.in_err-round.field-0.0 = search rules in
+    rw e (scan_wrong c.loop-round.invariant.expected c.in_err-round.ensures)
 
-pub loop-at-smaller : goal.loop-at-smaller
-loop-at-smaller c = omega (arith, body_next c.in-Body-record_at-3.ensures, c.loop-at-test.true)
+pub loop-round-preserved : goal.loop-round-preserved
+loop-round-preserved c = gone_more c.loop-round.invariant (answers c.in_ok-round.ensures c.in-Some-4.is)
 
-pub loop-at-preserved : goal.loop-at-preserved
-loop-at-preserved c = gone_more c.loop-at.invariant c.in-Body-record_at-3.ensures
-
-pub returns : goal.returns
-returns c = gone_end c.loop-at.invariant c.loop-at-test.false
+pub returns-in_default-4 : goal.returns-in_default-4
+returns-in_default-4 c = gone_end c.loop-round.invariant (answers c.in_ok-round.ensures c.in_default-4.is)

@@ -2,8 +2,10 @@
 use Rattle.plans.proofs.PassLaws.{glance_strong, glance_relaxed}
 use Rattle.plans.proofs.plan.glance.Goals as goal
 
-pub returns-then-mode-gt0 : goal.returns-then-mode-gt0
-returns-then-mode-gt0 c = glance_relaxed c.if-mode-gt0.true c.reach.ensures
+pub returns-in-Strong : goal.returns-in-Strong
+returns-in-Strong c = rw c.in-Strong.is (glance_strong _ _ _ _)
 
-pub returns : goal.returns
-returns c = glance_strong _ _ _ _ c.if-mode-gt0.false
+pub returns-in-Relaxed : goal.returns-in-Relaxed
+returns-in-Relaxed c =
+    let g = c.graph.ensures in
+    rw c.in-Relaxed.is (glance_relaxed (rw (g.old, g.new, g.choice) at c.reach.ensures))

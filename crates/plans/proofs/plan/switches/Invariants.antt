@@ -1,12 +1,8 @@
--- `plans::plan::switches` meets its contract. The loop's invariant: the first `many` are the switches among the last j ids of the
--- route, backward. The measure is what is left of the n ids.
-use Prim.Native.Nat.{◌-◌, ◌≤◌}
+-- `plans::plan::switches` meets its contract. The loop's invariant: those found are the switches of the route from index i on,
+-- backward.
 use Rattle.house.specs.Numbers.{entries}
 use Rattle.plans.specs.Working.{Backward}
 use Rattle.plans.proofs.plan.switches.Given as goal
 
-abbrev pub invariant-loop-j : goal.invariant-loop-j
-invariant-loop-j l = Backward l.old l.new (entries l.route) (l.n - l.j) l.left l.many × (l.j ≤ l.n)
-
-abbrev pub decreases-loop-j : goal.decreases-loop-j
-decreases-loop-j l = l.n - l.j
+abbrev pub invariant-loop-i : goal.invariant-loop-i
+invariant-loop-i l = Backward l.setting.old l.setting.new (entries l.route) l.i l.waiting.nodes l.waiting.many

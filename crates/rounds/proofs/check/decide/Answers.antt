@@ -6,5 +6,4 @@ pub returns-then-shows : goal.returns-then-shows
 returns-then-shows c = decided_old c.shows.ensures c.if-shows.true
 
 pub returns : goal.returns
-returns c =
-    decided_new c.shows.ensures c.if-shows.false c.put.ensures
+returns c = decided_new c.shows.ensures c.if-shows.false c.insert.ensures

@@ -1,31 +1,30 @@
-use Prim.Native.Nat.{ℕ, ◌<◌}
-use mathlib.Core.Path.{◌≡◌, ◌∙◌}
+use Prim.Native.Nat.{◌<◌}
+use mathlib.Core.Path.{◌∙◌, sym}
 use native.Mathlib.Omega.{arith}
-use lib.ListN.{length, get_or}
+use lib.ListN.{length}
+use Rattle.std.proofs.lemmas.Bool.{true≢false}
 use Rattle.house.specs.Numbers.{entries}
 use Rattle.house.proofs.NumberLaws.{length_entries}
-use Rattle.routes.proofs.TestLaws.{marked_none, marked_more, unmet_end}
-use Rattle.rounds.proofs.schedule.first_again.Goals.{After-wide-v}
+use Rattle.routes.proofs.TestLaws.{marked_none, marked_more}
+use Rattle.rounds.proofs.TestLaws.{again_here, again_end}
+use Rattle.rounds.proofs.schedule.first_again.Goals.{In-loop-i}
 use Rattle.rounds.proofs.schedule.first_again.Goals as goal
 
--- the id read is the one at `i`, and below 512
-inside : (c : After-wide-v) → c.loop-i.i < length (entries c.args.ids.now)
-inside c = omega (arith, length_entries c.args.ids.now)
-
-same : (c : After-wide-v) → c.wide-v.result ≡ get_or (entries c.args.ids.now) c.loop-i.i 0
-same c = c.wide-v.ensures ∙ c.entry.ensures
-
-small : (c : After-wide-v) → c.wide-v.result < 512
-small c = omega (arith, same c, c.requires.low c.loop-i.i (inside c))
+inside : (c : In-loop-i) → c.loop-i.i < length (entries c.args.nodes.ids.now)
+inside c = omega (arith, length_entries c.args.nodes.ids.now)
 
 pub loop-i-init : goal.loop-i-init
 loop-i-init c = marked_none
 
+pub returns-then-met-v : goal.returns-then-met-v
+returns-then-met-v c =
+    again_here c.loop-i.invariant (inside (goal.at.returns-then-met-v c).In-loop-i) (c.from-v.ensures ∙ c.entry.ensures) c.if-met-v.true
+
 pub loop-i-preserved : goal.loop-i-preserved
 loop-i-preserved c =
-    let w = (goal.at.loop-i-preserved c).After-wide-v in
-    marked_more c.loop-i.invariant (inside w) (same w) (small w)
-    (λ e. let z : ◌≡◌ {A = ℕ} 0 1 = cc c.if-met-v.false in omega arith)
+    let i = inside (goal.at.loop-i-preserved c).In-loop-i in
+    marked_more c.loop-i.invariant i (c.from-v.ensures ∙ c.entry.ensures) (omega (arith, c.from-v.ensures, c.entry.ensures, c.args.nodes.low.low c.loop-i.i i))
+    (λ e. true≢false (sym e ∙ c.if-met-v.false))
 
 pub returns : goal.returns
-returns c = unmet_end c.loop-i.invariant.run (omega (arith, length_entries c.args.ids.now))
+returns c = again_end c.loop-i.invariant (omega (arith, length_entries c.args.nodes.ids.now))

@@ -1,35 +1,35 @@
-use mathlib.Core.Path.{◌≡◌, sym, ◌∙◌}
+use Rattle.std.proofs.Common.{◌<◌, length, sym, ◌∙◌, get_or}
 use native.Mathlib.Numerals.{add-one}
 use native.Mathlib.Omega.{arith}
-use lib.ListN.{get_or}
 use Rattle.house.specs.Numbers.{entries}
 use Rattle.house.proofs.NumberLaws.{length_entries}
-use Rattle.routes.specs.Jumps.{position}
-use Rattle.routes.proofs.JumpLaws.{first_on_here, first_on_past, first_on_end, position_on, position_off}
+use Rattle.routes.specs.Jumps.{met, unmet}
+use Rattle.routes.proofs.JumpLaws.{first_on_here, first_on_past, first_on_end, position_on, position_off, sought, unsought}
 use Rattle.routes.proofs.jump.meet.Goals as goal
 
-pub returns-then-p-n : goal.returns-then-p-n
-returns-then-p-n c w e =
-    let a = c.args in
-    let p = entries a.other.now in
-    let q = entries a.along.now in
+pub returns-in-Some : goal.returns-in-Some
+returns-in-Some c =
+    let p = entries c.args.other.now in
+    let q = entries c.args.along.now in
     let i = c.loop-i.i in
-    let x : c.position-p.result ≡ position p (get_or q i 0) = cc in
-    let f = first_on_here p q i (omega (arith, length_entries a.along.now)) (position_on p (get_or q i 0) (omega (arith, length_entries a.other.now))) in
-    cc
+    let s = sought p (get_or q i 0) (rw c.entry.ensures at c.in-Some.ensures) in
+    rw s.0
+    (met
+    (sym c.loop-i.invariant
+    ∙ first_on_here p q i (omega (arith, length_entries c.args.along.now)) (position_on p (get_or q i 0) (omega (arith, s)))))
 
 pub loop-i-preserved : goal.loop-i-preserved
 loop-i-preserved c =
-    let a = c.args in
-    let p = entries a.other.now in
-    let q = entries a.along.now in
+    let p = entries c.args.other.now in
+    let q = entries c.args.along.now in
     let i = c.loop-i.i in
-    let x : c.position-p.result ≡ position p (get_or q i 0) = cc in
-    let f = first_on_past p q i (omega (arith, length_entries a.along.now)) (position_off p (get_or q i 0) (omega (arith, length_entries a.other.now))) in
-    rw (add-one i) (sym f ∙ c.loop-i.invariant)
+    let s = unsought p (get_or q i 0) (rw c.entry.ensures at c.in_default.ensures) in
+    let inside : i < length q = omega (arith, length_entries c.args.along.now) in
+    rw (add-one i) (sym (first_on_past p q i inside (position_off p (get_or q i 0) (omega (arith, s)))) ∙ c.loop-i.invariant)
 
 pub returns : goal.returns
-returns c w e =
-    let a = c.args in
-    let f = first_on_end (entries a.other.now) (entries a.along.now) c.loop-i.i (omega (arith, length_entries a.along.now)) in
-    cc
+returns c =
+    unmet
+    (sym c.loop-i.invariant
+    ∙ first_on_end (entries c.args.other.now) (entries c.args.along.now) c.loop-i.i
+    (omega (arith, length_entries c.args.along.now)))

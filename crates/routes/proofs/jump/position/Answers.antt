@@ -1,27 +1,11 @@
-use mathlib.Core.Path.{sym, ◌∙◌}
-use native.Mathlib.Omega.{arith}
-use borrow.Author.Count.{below_more}
+-- `routes::jump::position` meets its contract: the search answers an index where `v` stands, and it stands at no index before.
+use Rattle.std.proofs.Common.{rules}
+use Rattle.std.proofs.lemmas.Iterator.{first_from_Range}
 use Rattle.house.proofs.NumberLaws.{length_entries}
-use Rattle.routes.proofs.JumpLaws.{position_is}
+use Rattle.house.proofs.Finding.{finds_in}
 use Rattle.routes.proofs.jump.position.Goals as goal
-
-pub returns-then-entry-v : goal.returns-then-entry-v
-returns-then-entry-v c =
-    position_is _ _ (sym (length_entries _))
-    (record {
-      within = omega arith;
-      none_before = c.loop-i.invariant.1;
-      found = λ _. sym c.entry.ensures ∙ c.if-entry-v.true;
-    })
-
-pub loop-i-preserved : goal.loop-i-preserved
-loop-i-preserved c = (omega arith, below_more _ _ c.loop-i.invariant.1 (λ e. c.if-entry-v.false (c.entry.ensures ∙ e)))
 
 pub returns : goal.returns
 returns c =
-    position_is _ _ (sym (length_entries _))
-    (record {
-      within = omega arith;
-      none_before = λ k h. c.loop-i.invariant.1 k (omega arith);
-      found = λ h. absurd (omega arith);
-    })
+    rw (length_entries c.args.route.now)
+    (finds_in (first_from_Range _ _ _ _ _ _ c.find.ensures.ran (λ x q k. search rules) (λ x q k. search rules)))

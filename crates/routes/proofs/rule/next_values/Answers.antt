@@ -11,7 +11,7 @@ use Rattle.routes.proofs.rule.next_values.Invariants.{Filled}
 use Rattle.routes.proofs.rule.next_values.Goals as goal
 
 filled_none : {l t : List ℕ} (i : ℕ) → i ≡ length l → Values [] t → Filled l t 513 i
-filled_none {l} i e x = record { within = omega arith; table = rw (e, drop-length l) x; first = rw (e, drop-length l) }
+filled_none {l} i e x = record { table = rw (e, drop-length l) x; first = rw (e, drop-length l) }
 
 filled_more : {l t : List ℕ} {a u : ℕ} (i : ℕ)
     → 0 < i
@@ -20,31 +20,22 @@ filled_more : {l t : List ℕ} {a u : ℕ} (i : ℕ)
     → a ≡ get_or l (i - 1) 0
     → Values (u ∷ drop i l) t
     → Filled l t a (i - 1)
-filled_more {l} {t} {a} {u} i p h q e x =
-    record { within = omega arith; table = rw d (rw q at x); first = rw d }
+filled_more {l} {t} {a} {u} i p h q e x = record { table = rw d (rw q at x); first = rw d }
   where
     d : drop (i - 1) l ≡ a ∷ drop i l
     d =
         let k : suc (i - 1) ≡ i = omega arith in
         rw (drop-cons l (i - 1) 0 (omega arith), k, ← e)
 
-filled_all : {l t : List ℕ} {a i : ℕ} → Filled l t a i → i ≤ 0 → Values l t
-filled_all {i} f h = let e : i ≡ 0 = omega arith in rw e at f.table
-
 pub loop-i-init : goal.loop-i-init
 loop-i-init c = filled_none _ (sym (length_entries _)) values_nil
 
 pub loop-i-preserved-then-v-lt512 : goal.loop-i-preserved-then-v-lt512
 loop-i-preserved-then-v-lt512 c =
-    filled_more c.loop-i.i c.loop-i-test.true c.loop-i.invariant.within c.wide-v.ensures
-    c.entry-id.ensures
-    (values_store c.loop-i.invariant.table c.loop-i.invariant.first c.if-v-lt512.true)
+    filled_more c.loop-i.i c.loop-i-test.true (omega (arith, length_entries c.args.route.now)) c.from-v.ensures c.entry-id.ensures
+    (values_store c.loop-i.invariant.table c.loop-i.invariant.first (omega arith))
 
 pub loop-i-preserved : goal.loop-i-preserved
 loop-i-preserved c =
-    filled_more c.loop-i.i c.loop-i-test.true c.loop-i.invariant.within c.wide-v.ensures
-    c.entry-id.ensures
-    (values_skip c.loop-i.invariant.table c.if-v-lt512.false)
-
-pub returns : goal.returns
-returns c = filled_all c.loop-i.invariant c.loop-i-test.false
+    filled_more c.loop-i.i c.loop-i-test.true (omega (arith, length_entries c.args.route.now)) c.from-v.ensures c.entry-id.ensures
+    (values_skip c.loop-i.invariant.table (omega arith))

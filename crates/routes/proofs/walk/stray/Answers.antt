@@ -1,39 +1,16 @@
-use mathlib.Core.Path.{sym, ◌∙◌}
-use native.Mathlib.Omega.{arith}
-use borrow.Author.Count.{below_none, below_more}
-use Rattle.routes.proofs.WalkPartsLaws.{not_both}
+-- `routes::walk::stray` meets its contract: the closure's answer says whether the id is `Stray`.
+use Prim.Native.Nat.{ℕ}
 use borrow.Author.Rules.{rules}
-use Rattle.routes.proofs.walk.stray.Goals.{then-member+else-not-due-i, else-member}
+use borrow.Author.Tests.{tests}
+use Rattle.std.proofs.lemmas.Iterator.{first_from_Range}
+use Rattle.house.proofs.Finding.{finds_in}
+use Rattle.routes.specs.WalkParts.{Stray}
 use Rattle.routes.proofs.walk.stray.Goals as goal
-
-pub loop-i-init : goal.loop-i-init
-loop-i-init c = (search rules, below_none _)
-
-pub returns-then-not-due-i : goal.returns-then-not-due-i
-returns-then-not-due-i c =
-    record {
-      within = search rules;
-      none_before = c.loop-i.invariant.1;
-      found = λ h. record {
-        member = sym c.member.ensures ∙ c.if-member.true;
-        unmarked = c.if-not-due-i.true;
-      };
-    }
-
-pub loop-i-preserved : goal.loop-i-preserved
-loop-i-preserved c = (
-  search rules,
-  below_more _ _ c.loop-i.invariant.1 (λ x.
-      elim c.if-member.branch [
-        | then-member+else-not-due-i w ↦ not_both x.unmarked w.if-not-due-i.false
-        | else-member w ↦ not_both (sym c.member.ensures ∙ w.if-member.false) x.member
-      ]),
-)
 
 pub returns : goal.returns
 returns c =
-    record {
-      within = search rules;
-      none_before = c.loop-i.invariant.1;
-      found = λ h. absurd (omega arith);
-    }
+    let At : ℕ → Type 0 = Stray c.args.set.now.words c.args.due.now in
+    finds_in
+    (first_from_Range _ _ _ _ At (λ i. At i → ⊥) c.find.ensures.ran
+    (λ i q k. record { member = search (rules, tests); unmarked = search (rules, tests) })
+    (λ i q k. (search rules, λ s. search (rules, tests, s.member, s.unmarked))))
