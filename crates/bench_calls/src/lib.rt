@@ -37,10 +37,11 @@ pub extern "C" fn bench_cyclic(
 }
 
 // A number, or the most that there is room for.
+// Kept: `lane`, `pack` and `refused` of `jiwasampu` are like these; a crate for both would be no plainer than the few lines.
 fn cap(x: usize, most: u64) -> u64
     ensures { result ≡ min x most }
 {
-    most.min(x as u64)
+    (x as u64).min(most)
 }
 
 // Six numbers as one.

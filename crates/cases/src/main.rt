@@ -30,6 +30,7 @@ fn answer<W: Write>(out: &mut W, frame: &[u8]) -> io::Result<()> {
     let old = part(frame, 16, entry(frame, 2));
     let new = part(frame, 640, entry(frame, 3));
     let set = part(frame, 1264, entry(frame, 4));
+    // Kept: a number, since an enum would need a conversion as long as this match.
     match entry(frame, 0) {
         1 => match judge(old, new) {
             Ok(()) => writeln!(out, "good"),

@@ -52,14 +52,14 @@ impl Held {
     }
 
     // The old route.
-    fn old(&self) -> &[u8]
+    fn old_route(&self) -> &[u8]
         ensures { result.now ≡ take (2 * self.now.content.olds) self.now.old }
     {
         &self.old[..2 * self.content.olds]
     }
 
     // The new route.
-    fn new(&self) -> &[u8]
+    fn new_route(&self) -> &[u8]
         ensures { result.now ≡ take (2 * self.now.content.news) self.now.new }
     {
         &self.new[..2 * self.content.news]
@@ -162,8 +162,8 @@ fn checked(file: &[u8], set: &mut [u8; 64]) -> Result<Accepted, Refusal>
 {
     let held = Held::read(file)?;
     rounds::check::check(
-        held.old(),
-        held.new(),
+        held.old_route(),
+        held.new_route(),
         held.content.mode,
         held.ids(),
         held.sizes(),
@@ -189,7 +189,7 @@ fn planned(file: &[u8], out: &mut [u8; 4096]) -> Result<usize, Refusal>
     ensures { Planned file.now out.old result out.new }
 {
     let held = Held::read(file)?;
-    let (old, new, mode) = (held.old(), held.new(), held.content.mode);
+    let (old, new, mode) = (held.old_route(), held.new_route(), held.content.mode);
     let mut ids = [0; 1024];
     let mut sizes = [0; 1024];
     let given = plans::plan::plan(old, new, mode, &mut ids, &mut sizes)?;

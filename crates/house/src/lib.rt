@@ -15,6 +15,7 @@ use std::{array, fmt};
 
 // The refusals, in the order of their numbers, 1 to 19. A route is 1 for the old one and 2 for the new; rounds count from
 // 1, indexes from 0.
+// Kept: the route, the end and the round 0 of `NotDue` are numbers, as the definitions `site` and `place` have them.
 #[derive(Clone, Copy, Debug, PartialEq, Eq)]
 pub enum Refusal {
     // 1: a lent output is too short, a given set isn't eight words, or a byte input isn't whole entries

@@ -13,7 +13,7 @@ use routes::walk::Walked;
 fn lane(x: usize) -> u64
     ensures { (result ≡ min x 65535) × (result < 65536) }
 {
-    x.min(65535) as u64
+    (x as u64).min(65535)
 }
 
 // Four lanes as one number.

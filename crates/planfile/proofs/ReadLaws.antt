@@ -17,7 +17,7 @@
 --   refuses          == a refusal as the reply: lent memory is kept
 --   first_long, first_wrong, first_length == 2, 3 and 4 are given where no lower number applies
 --   read_clear       == no refusal applies where there is room, the file is short, its records are right, and so are the routes' lengths
---   scanned_wrong, scanned_fine == the same from what going through the records finds
+--   scanned_wrong    == a wrong record is refused, from what going through the records finds
 --   rounds_within, rounds_ready == behind the mode of a fine file rounds are expected, within the file
 --   old_wrong, new_wrong == a fine file with a route of the wrong length
 --   all_copied       == all of a fine file is copied: the reply, and lent memory after it
@@ -44,7 +44,6 @@ use Rattle.planfile.specs.Replies.{RecordIs, ended, wrong_at, stands, ReadFault,
 use Rattle.planfile.specs.Replies.{short_sizes, long, wrong, few, many, Reads, refused, content}
 use Rattle.planfile.specs.declared.read.Counts.{Counts}
 use Rattle.planfile.specs.declared.record.Record.{Record}
-use Rattle.planfile.specs.declared.read.Bodies.{Bodies}
 use Rattle.planfile.specs.declared.read.Content.{Content}
 use Rattle.planfile.proofs.OrderLaws.{before_wrong, before_length}
 use Rattle.planfile.proofs.RecordLaws.{Right, right, right_not, body, length_body}
@@ -295,14 +294,6 @@ pub scanned_wrong :
     → First (ReadFault f old new ids sizes) r
 scanned_wrong room fits (one_wrong x n v e) =
     rw (sym e) at (first_wrong room fits x n v)
-
-pub scanned_fine :
-    {f old new ids sizes : List ℕ} {b : Bodies}
-    → Room old new ids sizes
-    → length f ≤ 4092
-    → Scans f (Ok b)
-    → Fine f b.old b.new old new ids sizes
-scanned_fine room fits (all_right r x y) = record { right = r; old_size = x; new_size = y; fits = fits; room = room }
 
 -- ---- what a fine file holds
 

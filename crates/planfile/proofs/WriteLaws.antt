@@ -19,7 +19,7 @@ use native.Mathlib.Omega.{arith}
 use lib.ListN.{length, get_or, take, drop, length-append, length-drop}
 use lib.Seq.{sets, length-sets, length-take-le, take-suc, take-add, take_all, drop-nil}
 use Rattle.house.specs.Numbers.{bytes, entries, encode}
-use Rattle.house.proofs.NumberLaws.{Under, length_bytes, length_entries, length_encode, encode_entries}
+use Rattle.house.proofs.NumberLaws.{Under, length_entries, length_encode, encode_entries}
 use Rattle.house.specs.Refusals.{Before}
 use Rattle.house.specs.declared.Refusal.{Refusal}
 use Rattle.house.specs.declared.Refusal.TheVariants.{Unfit}
@@ -43,32 +43,34 @@ number_bytes : (n : ℕ) → to_le_bytes w16 n ≡ bytes 2 n
 unfolding bytes
 number_bytes n = refl
 
+-- the first two bytes of each of two lists
+four : List ℕ → List ℕ → List ℕ
+four h q = get_or h 0 0 ∷ get_or h 1 0 ∷ get_or q 0 0 ∷ get_or q 1 0 ∷ []
+
+record_is : (k : ℕ) (b : List ℕ) → four (bytes 2 (length b)) (bytes 2 k) ++ b ≡ record_of k b
+unfolding four bytes record_of
+record_is k b = refl
+
 pub record_stored :
-    {file f g f' : List ℕ} {at k n : ℕ} {b head kind : List ℕ}
+    {file f f' : List ℕ} {at k n : ℕ} {b head kind : List ℕ}
     → n ≡ length b
     → head ≡ to_le_bytes w16 n
     → kind ≡ to_le_bytes w16 k
-    → f ≡ sets file at head
-    → g ≡ sets f (at + 2) kind
-    → f' ≡ sets g (at + 4) b
+    → f ≡ sets file at (get_or head 0 0 ∷ get_or head 1 0 ∷ get_or kind 0 0 ∷ get_or kind 1 0 ∷ [])
+    → f' ≡ sets f (at + 4) b
     → PutRecord file at k b (at + 4 + length b) f'
-unfolding record_of
-record_stored {file} {f} {g} {f'} {at} {k} {n} {b} {head} {kind} en eh ek e d h =
+unfolding four
+record_stored {file} {f} {f'} {at} {k} {n} {b} {head} {kind} en eh ek e h =
     let l : head ≡ bytes 2 (length b) = eh ∙ ap (to_le_bytes w16) en ∙ number_bytes (length b) in
     let m : kind ≡ bytes 2 k = ek ∙ number_bytes k in
-    let x : at + 2 ≡ at + length head = omega (arith, ap length l, length_bytes 2 (length b)) in
-    let y : at + 4 ≡ at + 2 + length kind = omega (arith, ap length m, length_bytes 2 k) in
     record {
       stored =
           h
-          ∙ ap (λ (p : ℕ). sets g p b) y
-          ∙ ap (λ (z : List ℕ). sets z (at + 2 + length kind) b) d
-          ∙ sym (sets_append kind b f (at + 2))
-          ∙ ap (λ (p : ℕ). sets f p (kind ++ b)) x
-          ∙ ap (λ (z : List ℕ). sets z (at + length head) (kind ++ b)) e
-          ∙ sym (sets_append head (kind ++ b) file at)
-          ∙ ap (λ (z : List ℕ). sets file at (z ++ (kind ++ b))) l
-          ∙ ap (λ (z : List ℕ). sets file at (bytes 2 (length b) ++ (z ++ b))) m;
+          ∙ ap (λ (z : List ℕ). sets z (at + 4) b) e
+          ∙ sym (sets_append (four head kind) b file at)
+          ∙ ap (λ (z : List ℕ). sets file at (four z kind ++ b)) l
+          ∙ ap (λ (z : List ℕ). sets file at (four (bytes 2 (length b)) z ++ b)) m
+          ∙ ap (sets file at) (record_is k b);
       next = refl;
     }
 

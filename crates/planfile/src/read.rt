@@ -30,9 +30,11 @@ struct Counts {
 }
 
 // Goes through the records in their order, to the first that is wrong or to the end.
+// Kept: each record answer is unpacked by let .. else, a form that document 01 names.
 fn go_through(file: &[u8]) -> Result<Bodies, Refusal>
     ensures { Scans file.now result }
 {
+    // the end comes only where a round may follow, so that the first three `else` are never taken
     let Some(old) = record_at(file, 0, OLD_ROUTE)? else {
         return Err(Refusal::RecordWrong(0));
     };
@@ -55,6 +57,7 @@ fn go_through(file: &[u8]) -> Result<Bodies, Refusal>
 }
 
 // Judges how many ids a route has: 2 to 256. `which` is 1 for the old route and 2 for the new.
+// Kept: `routes::pair` has this test for a route's bytes; one function for both would be no plainer than these two lines.
 fn judge_length(which: usize, ids: usize) -> Result<(), Refusal>
     ensures { LengthIs which ids result }
 {
@@ -65,6 +68,7 @@ fn judge_length(which: usize, ids: usize) -> Result<(), Refusal>
 }
 
 // Copies the rounds of a file from the offset `from` on: their ids behind each other, and the size of each.
+// Only the lengths are read again: `go_through` has judged the records.
 fn copy_rounds(file: &[u8], from: usize, ids: &mut [u8], sizes: &mut [u8]) -> Counts
     requires { Ready file.now from ids.old sizes.old }
     ensures { Copied file.now from ids.old sizes.old result ids.new sizes.new }

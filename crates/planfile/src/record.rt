@@ -17,13 +17,15 @@ pub const ROUND: u16 = 4;
 // A record in a file: where its body starts, the body's length, and the next record's offset.
 #[derive(Clone, Copy, Debug, PartialEq, Eq)]
 pub struct Record {
+    // Kept: `RecordIs` promises it.
     pub start: usize,
     pub size: usize,
     pub next: usize,
 }
 
-// What stands at `at`, where a record of the kind `kind` is expected: the end is past all bytes where a round may follow; else
-// each test is one way for a record to be wrong. Nothing is added to `at` before it is known to be within the file.
+// The record at `at`, where one of the kind `kind` is expected; None at the end of the file, where a round may follow but none
+// does. A record is wrong where the file ends within its head, its length is odd or goes past the file, its kind is another, or
+// a mode's body is not one number. Nothing is added to `at` before it is known to be within the file.
 pub fn record_at(file: &[u8], at: usize, kind: u16) -> Result<Option<Record>, Refusal>
     ensures { RecordIs file.now at kind result }
 {

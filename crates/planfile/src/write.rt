@@ -13,8 +13,9 @@ fn put_record(file: &mut [u8], at: usize, kind: u16, body: &[u8]) -> usize
 {
     let size = body.len() as u16;
     let start = at + 4;
-    store(file, at, &size.to_le_bytes());
-    store(file, at + 2, &kind.to_le_bytes());
+    let [a, b] = size.to_le_bytes();
+    let [c, d] = kind.to_le_bytes();
+    store(file, at, &[a, b, c, d]);
     store(file, start, body);
     start + body.len()
 }

@@ -38,6 +38,7 @@
 --   Room c ids sizes k m == there is room for each node that is not placed: m ids are placed, in at most m rounds
 --   Entering c0 ids0 m0 c ids m v == each node below v is written behind m0 ids and placed, if it is of the present round
 --   Wrote c ids sizes k m c' ids' sizes' k' m' == the present round is written, if it has a node, and is placed
+--   Rounded Q c ids sizes k m c' ids' sizes' k' m' == the same of the round of the nodes of which Q tells true
 use Rattle.std.specs.Prelude.{ℕ, zero, suc, ◌+◌, ◌<◌, ◌≤◌, ◌≡◌, Bool, true, false, not, cond, ◌&&◌}
 use Rattle.std.specs.Prelude.{◌||◌, List, [], ◌∷◌, ◌++◌, reverse, length, get_or, set, take, drop, eqb, ltb, Result, Ok, Err}
 use Rattle.house.specs.declared.Refusal.{Refusal}
@@ -206,6 +207,11 @@ pub record Wrote (c ids sizes : List ℕ) (k m : ℕ) (c' ids' sizes' : List ℕ
   pub now_placed : (v : ℕ) → placed c' v ≡ together (placed c) (present c) v
   pub none_present : (v : ℕ) → present c' v ≡ false
   pub added : Added (some_round (present c)) ids sizes k m ids' sizes' k' m'
+
+pub record Rounded (Q : ℕ → Bool → Type 0) (c ids sizes : List ℕ) (k m : ℕ) (c' ids' sizes' : List ℕ) (k' m' : ℕ) : Type 0 where
+  pub marked : List ℕ
+  pub sought : SoughtBy Q c marked 512
+  pub wrote : Wrote marked ids sizes k m c' ids' sizes' k' m'
 
 -- ---- the rounds of switches
 

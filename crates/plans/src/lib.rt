@@ -7,9 +7,9 @@
 pub mod plan;
 pub mod quick;
 
-ghost use Rattle.std.specs.Prelude.{◌≡◌, ◌<◌, ℕ, length, get_or};
+ghost use Rattle.std.specs.Prelude.{◌≡◌, ◌<◌, ℕ, List, length, get_or};
 ghost use Rattle.routes.specs.Rules.{change_of};
-ghost use Rattle.plans.specs.Working.{FitIs, SoughtBy, Room, Entering, Wrote};
+ghost use Rattle.plans.specs.Working.{FitIs, SoughtBy, Room, Entering, Wrote, Rounded};
 
 use graph::{EITHER, NEW};
 use house::{Refusal, put_entry};
@@ -37,6 +37,12 @@ pub struct Given {
     pub count: usize,
 }
 
+// Nothing is written yet.
+const NONE: Given = Given {
+    rounds: 0,
+    count: 0,
+};
+
 // Writes the nodes of the present round, rising, behind the ids written, and places them. Returns the number of ids.
 fn enter_all(choice: &mut [u8; 512], ids: &mut [u8], first: usize) -> usize
     requires { Entering choice.old ids.old first choice.old ids.old first 0 }
@@ -44,6 +50,7 @@ fn enter_all(choice: &mut [u8; 512], ids: &mut [u8], first: usize) -> usize
 {
     let mut count = first;
     for v in 0..512 {
+        // Kept: `>` and not `== EITHER`, as the definition `present` has it.
         if choice[v] > NEW {
             choice[v] = NEW;
             put_entry(ids, count, v as u16);
@@ -51,22 +58,6 @@ fn enter_all(choice: &mut [u8; 512], ids: &mut [u8], first: usize) -> usize
         }
     }
     count
-}
-
-// Writes the present round behind what is written, and places it; a round of no node is none.
-fn write_round(choice: &mut [u8; 512], ids: &mut [u8], sizes: &mut [u8], done: Given) -> Given
-    requires { Room choice.old ids.old sizes.old done.rounds done.count }
-    ensures { Wrote choice.old ids.old sizes.old done.rounds done.count choice.new ids.new sizes.new result.rounds result.count }
-{
-    let count = enter_all(choice, ids, done.count);
-    if count == done.count {
-        return done;
-    }
-    put_entry(sizes, done.rounds, (count - done.count) as u16);
-    Given {
-        rounds: done.rounds + 1,
-        count,
-    }
 }
 
 // What happens to the rule of the node v.
@@ -86,5 +77,71 @@ fn seek<F: Fn(usize) -> bool>(choice: &mut [u8; 512], wanted: F)
         if wanted(v) {
             choice[v] = EITHER;
         }
+    }
+}
+
+// A plan that is being written: the choice list, the ids and sizes written so far, and how many of both.
+// Kept: no function `new`; tried, and after a call that takes both slices only their lengths are known.
+#[derive(Drop)]
+struct Draft<'a> {
+    choice: [u8; 512],
+    ids: &'a mut [u8],
+    sizes: &'a mut [u8],
+    given: Given,
+}
+
+impl Draft<'_> {
+    // Writes the present round behind what is written, and places it; a round of no node is none.
+    fn write_round(&mut self)
+        requires { Room self.old.choice self.old.ids.now self.old.sizes.now self.old.given.rounds self.old.given.count }
+        ensures same_ids { self.new.ids.ghost_name ≡ self.old.ids.ghost_name }
+        ensures same_sizes { self.new.sizes.ghost_name ≡ self.old.sizes.ghost_name }
+        ensures wrote { Wrote
+            self.old.choice
+            self.old.ids.now
+            self.old.sizes.now
+            self.old.given.rounds
+            self.old.given.count
+            self.new.choice
+            self.new.ids.now
+            self.new.sizes.now
+            self.new.given.rounds
+            self.new.given.count }
+    {
+        let done = self.given;
+        let count = enter_all(&mut self.choice, self.ids, done.count);
+        if count == done.count {
+            return;
+        }
+        put_entry(self.sizes, done.rounds, (count - done.count) as u16);
+        self.given = Given {
+            rounds: done.rounds + 1,
+            count,
+        };
+    }
+
+    // Writes the round of all nodes that are wanted.
+    fn round<F: Fn(usize) -> bool>(&mut self, wanted: F)
+        requires told { (v : ℕ) → v < 512 → F.pre wanted v }
+        requires room { (c : List ℕ)
+            → SoughtBy (F.post wanted) self.old.choice c 512
+            → Room c self.old.ids.now self.old.sizes.now self.old.given.rounds self.old.given.count }
+        ensures same_ids { self.new.ids.ghost_name ≡ self.old.ids.ghost_name }
+        ensures same_sizes { self.new.sizes.ghost_name ≡ self.old.sizes.ghost_name }
+        ensures wrote { Rounded
+            (F.post wanted)
+            self.old.choice
+            self.old.ids.now
+            self.old.sizes.now
+            self.old.given.rounds
+            self.old.given.count
+            self.new.choice
+            self.new.ids.now
+            self.new.sizes.now
+            self.new.given.rounds
+            self.new.given.count }
+    {
+        seek(&mut self.choice, wanted);
+        self.write_round();
     }
 }

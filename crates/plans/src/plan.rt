@@ -5,9 +5,8 @@ ghost use Rattle.plans.specs.Replies.{Plans};
 ghost use Rattle.plans.specs.Working.{Fits, Seen, Free, Tried, Lined, Passed, Closing};
 ghost use Rattle.plans.specs.Working.{Backward, Written};
 ghost use Rattle.rounds.specs.Mode.{mode_no};
-ghost use Rattle.routes.specs.Routes.{GoodRoute};
 
-use crate::{Given, change_at, fit, seek, write_round};
+use crate::{Draft, Given, NONE, change_at, fit};
 use graph::{EITHER, Graph, OLD};
 use house::{Refusal, entry};
 use rounds::mode::Mode;
@@ -17,6 +16,7 @@ use routes::rule::Change;
 use std::array;
 
 // The switches that wait, in the order in which they are tried: the first `many` of `nodes`.
+// Kept: an array with a length, since there is no heap; 256 is the most.
 #[derive(Drop)]
 struct Waiting {
     nodes: [u16; 256],
@@ -24,16 +24,15 @@ struct Waiting {
 }
 
 // The switches, from the destination backward along the new route.
-fn switches(setting: &Setting, route: &[u8]) -> Waiting
-    requires { GoodRoute (entries route.now) }
-    ensures { Backward setting.now.old setting.now.new (entries route.now) 0 result.nodes result.many }
+fn switches(setting: &Setting, pair: &Pair) -> Waiting
+    ensures { Backward setting.now.old setting.now.new (entries pair.now.new.now) 0 result.nodes result.many }
 {
     let mut waiting = Waiting {
         nodes: [0; 256],
         many: 0,
     };
-    for i in (0..route.len() / 2).rev() {
-        let id = entry(route, i);
+    for i in (0..pair.new.len() / 2).rev() {
+        let id = entry(pair.new, i);
         if change_at(setting, usize::from(id)) == Change::Switch {
             waiting.nodes[waiting.many] = id;
             waiting.many += 1;
@@ -47,6 +46,7 @@ fn switches(setting: &Setting, route: &[u8]) -> Waiting
 fn closes(graph: &Graph, seen: &[bool; 514], more: &[bool; 514]) -> bool
     ensures { Closing graph.now.old.now graph.now.new.now graph.now.choice.now seen.now more.now result }
 {
+    // Kept: `&` and not `&&`, since what `from_fn` says of a closure with two branches did not close the proof; so below with `|`.
     let fresh = array::from_fn(|v| more[v] & !seen[v]);
     fresh.contains(&true) && graph.cyclic(&fresh)
 }
@@ -56,7 +56,8 @@ fn closes(graph: &Graph, seen: &[bool; 514], more: &[bool; 514]) -> bool
 // new next value back to it or to a closed path that was not reached before, and what is reached grows.
 fn may_join(setting: &Setting, choice: &[u8; 512], seen: &mut [bool; 514], v: usize) -> bool
     requires free { Free choice.now v }
-    requires fits { Fits (mode_no setting.now.mode) setting.now.old setting.now.new choice.now setting.now.source × Seen (mode_no setting.now.mode) setting.now.old setting.now.new choice.now setting.now.source seen.old }
+    requires fits { Fits (mode_no setting.now.mode) setting.now.old setting.now.new choice.now setting.now.source }
+    requires marks { Seen (mode_no setting.now.mode) setting.now.old setting.now.new choice.now setting.now.source seen.old }
     ensures { Tried (mode_no setting.now.mode) setting.now.old setting.now.new choice.now setting.now.source v result seen.new }
 {
     let w = usize::from(setting.new[v]);
@@ -87,8 +88,19 @@ fn glance(setting: &Setting, choice: &[u8; 512]) -> [bool; 514]
 
 // One pass over the switches that wait, in their order: each joins the present round if it may, the others go on waiting.
 fn pass(setting: &Setting, choice: &mut [u8; 512], waiting: &mut Waiting)
-    requires { Lined choice.old waiting.old.nodes 0 waiting.old.many × Fits (mode_no setting.now.mode) setting.now.old setting.now.new choice.old setting.now.source }
-    ensures { Passed (mode_no setting.now.mode) setting.now.old setting.now.new setting.now.source choice.old waiting.old.nodes waiting.old.many choice.new waiting.new.nodes waiting.new.many }
+    requires lined { Lined choice.old waiting.old.nodes 0 waiting.old.many }
+    requires fits { Fits (mode_no setting.now.mode) setting.now.old setting.now.new choice.old setting.now.source }
+    ensures { Passed
+        (mode_no setting.now.mode)
+        setting.now.old
+        setting.now.new
+        setting.now.source
+        choice.old
+        waiting.old.nodes
+        waiting.old.many
+        choice.new
+        waiting.new.nodes
+        waiting.new.many }
 {
     let mut seen = glance(setting, choice);
     let mut kept = 0;
@@ -109,23 +121,32 @@ fn pass(setting: &Setting, choice: &mut [u8; 512], waiting: &mut Waiting)
 // pass over them makes a round. The first switch of a pass always joins, so that fewer wait after each.
 fn write_plan(pair: &Pair, mode: Mode, ids: &mut [u8], sizes: &mut [u8]) -> Given
     requires { (1024 ≤ length ids.old) × (1024 ≤ length sizes.old) }
-    ensures { Written (mode_no mode) (entries pair.now.old.now) (entries pair.now.new.now) ids.old sizes.old ids.new sizes.new result.rounds result.count }
+    ensures { Written
+        (mode_no mode)
+        (entries pair.now.old.now)
+        (entries pair.now.new.now)
+        ids.old
+        sizes.old
+        ids.new
+        sizes.new
+        result.rounds
+        result.count }
 {
     let setting = Setting::new(pair, mode);
-    let mut choice = [OLD; 512];
-    let none = Given {
-        rounds: 0,
-        count: 0,
+    let mut draft = Draft {
+        choice: [OLD; 512],
+        ids,
+        sizes,
+        given: NONE,
     };
-    seek(&mut choice, |v| change_at(&setting, v) == Change::Install);
-    let mut done = write_round(&mut choice, ids, sizes, none);
-    let mut waiting = switches(&setting, pair.new);
+    draft.round(|v| change_at(&setting, v) == Change::Install);
+    let mut waiting = switches(&setting, pair);
     while waiting.many > 0 {
-        pass(&setting, &mut choice, &mut waiting);
-        done = write_round(&mut choice, ids, sizes, done);
+        pass(&setting, &mut draft.choice, &mut waiting);
+        draft.write_round();
     }
-    seek(&mut choice, |v| change_at(&setting, v) == Change::Remove);
-    write_round(&mut choice, ids, sizes, done)
+    draft.round(|v| change_at(&setting, v) == Change::Remove);
+    draft.given
 }
 
 // Plans the change from the old route to the new one, given as bytes, in this mode (0 strong, 1 relaxed): writes the ids of the

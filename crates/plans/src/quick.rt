@@ -6,18 +6,21 @@ ghost use Rattle.plans.specs.Replies.{Quicks};
 ghost use Rattle.plans.specs.Working.{Added};
 ghost use Rattle.plans.specs.QuickParts.{Places, Forward, Back, four_rounds};
 
-use crate::{Given, change_at, fit, seek, write_round};
+use crate::{Draft, Given, NONE, change_at, fit};
 use graph::OLD;
 use house::{Refusal, entry};
 use rounds::setting::Setting;
 use routes::pair::Pair;
 use routes::rule::Change;
 
+// No node is on the route.
+const NOWHERE: [Option<u8>; 512] = [None; 512];
+
 // The position of each node on the old route, if it is on it; a good route has at most 256 ids.
 fn positions(pair: &Pair) -> [Option<u8>; 512]
     ensures { Places (entries pair.now.old.now) result (length (entries pair.now.old.now)) }
 {
-    let mut at = [None; 512];
+    let mut at = NOWHERE;
     for i in 0..pair.old.len() / 2 {
         let v = usize::from(entry(pair.old, i));
         at[v] = Some(i as u8);
@@ -51,30 +54,23 @@ fn lowest_back(setting: &Setting, first: &[bool; 512], second: &[bool; 512]) -> 
 }
 
 // Writes all rounds of the quick plan: the installs, the marked switches, the other switches, the removes.
+// Kept: the clause `tables`, since these lengths are known only where the fields are taken apart, and then the closures didn't prove.
 fn write_quick(setting: &Setting, marks: &[bool; 512], ids: &mut [u8], sizes: &mut [u8]) -> Given
     requires tables { (length setting.now.old ≡ 512) × (length setting.now.new ≡ 512) }
     requires room { (1024 ≤ length ids.old) × (1024 ≤ length sizes.old) }
     ensures { Added (four_rounds setting.now.old setting.now.new marks.now) ids.old sizes.old 0 0 ids.new sizes.new result.rounds result.count }
 {
-    let mut choice = [OLD; 512];
-    seek(&mut choice, |v| change_at(setting, v) == Change::Install);
-    let none = Given {
-        rounds: 0,
-        count: 0,
+    let mut draft = Draft {
+        choice: [OLD; 512],
+        ids,
+        sizes,
+        given: NONE,
     };
-    let first = write_round(&mut choice, ids, sizes, none);
-    seek(
-        &mut choice,
-        |v| change_at(setting, v) == Change::Switch && marks[v],
-    );
-    let second = write_round(&mut choice, ids, sizes, first);
-    seek(
-        &mut choice,
-        |v| change_at(setting, v) == Change::Switch && !marks[v],
-    );
-    let third = write_round(&mut choice, ids, sizes, second);
-    seek(&mut choice, |v| change_at(setting, v) == Change::Remove);
-    write_round(&mut choice, ids, sizes, third)
+    draft.round(|v| change_at(setting, v) == Change::Install);
+    draft.round(|v| change_at(setting, v) == Change::Switch && marks[v]);
+    draft.round(|v| change_at(setting, v) == Change::Switch && !marks[v]);
+    draft.round(|v| change_at(setting, v) == Change::Remove);
+    draft.given
 }
 
 // Plans the change from the old route to the new one as `plan` does, with every switch that has a positive old-order jump in

@@ -25,10 +25,12 @@
 --   scan_none, scan_some, scan_next, scan_rounds, scan_fits, scan_here, scan_on, scan_end == the run begins; within a round
 --                      there is an id before; a round begins, there is one more, and it ends within the ids; the id at i
 --                      falls, or does not; the run ends
---   again_here, again_end == a run with marks for the ids met comes to one that is marked: the first repeat; or to the end
 --   LeftOf m ids left i == the marks left are those of m without the first i of the ids
 --   left_more, left_end == the marks are struck out one by one
+--   first_mark      == a search of 512 marks finds the first mark
 --   unplaced_first  == the first mark left is the first that is lost
+use Rattle.std.specs.Option.{MatchOption}
+use Rattle.std.specs.List.{AllWithin, HoldsAt}
 use Rattle.std.specs.Prelude.{Option, Some, None, Result, Ok, Err}
 use Prim.Native.Nat.{ℕ, suc, ◌+◌, ◌-◌, ◌%◌, ◌<◌, ◌≤◌}
 use mathlib.Core.Path.{◌≡◌, refl, sym, ap, ◌∙◌, subst}
@@ -56,7 +58,6 @@ use Rattle.routes.specs.Replies.{Judges, sound as Pair-sound, faulty as Pair-fau
 use Rattle.house.proofs.RefusalLaws.{before_number, unfit_first}
 use Rattle.routes.proofs.PairLaws.{judge_low}
 use Rattle.routes.proofs.RuleLaws.{due_mark, due_below}
-use Rattle.routes.proofs.TestLaws.{Marked}
 use Rattle.rounds.specs.Mode.{mode_no, ModeOf, is_mode, over}
 use Rattle.rounds.specs.declared.mode.Mode.{Mode}
 use Rattle.rounds.specs.declared.mode.Mode.TheVariants.{Strong, Relaxed}
@@ -532,21 +533,6 @@ scan_end a h = nowhere (λ k l. a.none_falls k (omega arith))
 
 -- ---- marks set and struck out
 
-pub again_here :
-    {l : List ℕ} {met : List Bool} {i v : ℕ}
-    → Marked l met i
-    → i < length l
-    → v ≡ get_or l i 0
-    → get_or met v false ≡ true
-    → Finds (Repeat l) (length l) (Some i)
-again_here {l} {met} {i} {v} a h e t = found h (go (a.back v t)) a.run.none_before
-  where
-    go : (j : ℕ) × (j < i) × (get_or l j 0 ≡ v) → Repeat l i
-    go (j, k, s) = (j, k, s ∙ e)
-
-pub again_end : {l : List ℕ} {met : List Bool} {i : ℕ} → Marked l met i → length l ≤ i → Finds (Repeat l) (length l) None
-again_end a h = nowhere (λ k b. a.run.none_before k (omega arith))
-
 pub record LeftOf (m : List Bool) (ids : List ℕ) (left : List Bool) (i : ℕ) : Type 0 where
   pub size : length left ≡ 512
   pub within : i ≤ length ids
@@ -613,3 +599,12 @@ pub unplaced_first :
     → Finds (Lost m ids) n r
 unplaced_first u (found h t f) = found h (u.lost _ t) (λ k b w. f k b (u.left k w))
 unplaced_first u (nowhere f) = nowhere (λ k b w. f k b (u.left k w))
+
+pub first_mark :
+    (l : List Bool) {r : Option ℕ}
+    → length l ≡ 512
+    → MatchOption r (AllWithin (λ b. b ≡ true → ⊥) l 0 (length l))
+    (λ i. (i < length l) × HoldsAt (λ b. b ≡ true) l i × AllWithin (λ b. b ≡ true → ⊥) l 0 i)
+    → Finds (λ v. get_or l v false ≡ true) 512 r
+first_mark l {r = None} e h = nowhere (λ k b p. h k false (omega arith) (omega (arith, e)) p)
+first_mark l {r = Some i} e h = found (omega (arith, e, h.0)) (h.1 false) (λ k b p. h.2 k false (omega arith) b p)

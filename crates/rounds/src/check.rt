@@ -110,8 +110,8 @@ struct Sound<'a> {
 }
 
 impl Sound<'_> {
-    // The first bad round. It leaves the choice of that round's states in `choice`, which has 0 everywhere at first: each round
-    // is made either, tested, and made new only.
+    // The first bad round. It leaves the choice of that round's states in `choice`, which has OLD everywhere at first: each
+    // round is made either, tested, and made new only.
     fn first_bad(&self, choice: &mut [u8; 512]) -> Option<BadRound>
         requires { Coded (entries self.now.ids.now) (entries self.now.sizes.now) 1 0 choice.old }
         ensures { Searched

@@ -1,4 +1,4 @@
-// Judging a schedule (8 to 14) and checking its rounds (15 to 17).
+// Judging a schedule (8 to 14) and checking its rounds (15 to 17), in a mode and on a setting: the tables of a good pair.
 #![tactic(auto)]
 
 pub mod check;

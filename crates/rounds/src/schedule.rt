@@ -5,7 +5,7 @@
 ghost use Rattle.std.specs.Prelude.{◌≡◌, false, eqb, length, get_or};
 ghost use Rattle.house.specs.Numbers.{entries};
 ghost use Rattle.house.specs.Finds.{Finds};
-ghost use Rattle.routes.specs.Routes.{Good, Repeat};
+ghost use Rattle.routes.specs.Routes.{Good};
 ghost use Rattle.rounds.specs.Schedule.{sum, round_of, ScheduleFault};
 ghost use Rattle.rounds.specs.Tests.{Located, Fitting, Falls, Stray, Lost, Unplaced, Answers};
 ghost use Rattle.rounds.specs.Replies.{JudgesChange};
@@ -84,7 +84,9 @@ impl Schedule<'_> {
 
     // Judges the mode and the schedule, refusals 8 to 14, of a change between the pair of routes.
     fn judge(&self, pair: Pair, mode: u16) -> Result<(), Refusal>
-        ensures { Answers (ScheduleFault (entries pair.entry.old.now) (entries pair.entry.new.now) mode (entries self.now.ids.now) (entries self.now.sizes.now)) result }
+        ensures { Answers
+            (ScheduleFault (entries pair.entry.old.now) (entries pair.entry.new.now) mode (entries self.now.ids.now) (entries self.now.sizes.now))
+            result }
     {
         Mode::try_from(mode)?;
         if !self.adds_up() {
@@ -101,7 +103,7 @@ impl Schedule<'_> {
             return Err(Refusal::NotDue(self.round_of(i), i));
         }
         let nodes = Nodes { ids: self.ids };
-        if let Some(i) = first_again(nodes) {
+        if let Some(i) = nodes.first_again() {
             return Err(Refusal::Again(self.round_of(i), i));
         }
         if let Some(v) = first_missing(nodes, &due) {
@@ -126,21 +128,6 @@ fn first_not_due(ids: &[u8], due: &[bool; 512]) -> Option<usize>
     (0..ids.len() / 2).find(|&i| !marked(due, entry(ids, i)))
 }
 
-// The index of the first id that stands before it already, in one run with a mark for each id met.
-fn first_again(nodes: Nodes) -> Option<usize>
-    ensures { Finds (Repeat (entries nodes.entry.ids.now)) (length (entries nodes.entry.ids.now)) result }
-{
-    let mut met = [false; 512];
-    for i in 0..nodes.ids.len() / 2 {
-        let v = usize::from(entry(nodes.ids, i));
-        if met[v] {
-            return Some(i);
-        }
-        met[v] = true;
-    }
-    None
-}
-
 // The marks without those of the nodes.
 fn unplaced(nodes: Nodes, due: &[bool; 512]) -> [bool; 512]
     ensures { Unplaced due.now (entries nodes.entry.ids.now) result }
@@ -156,8 +143,7 @@ fn unplaced(nodes: Nodes, due: &[bool; 512]) -> [bool; 512]
 fn first_missing(nodes: Nodes, due: &[bool; 512]) -> Option<usize>
     ensures { Finds (Lost due.now (entries nodes.entry.ids.now)) 512 result }
 {
-    let left = unplaced(nodes, due);
-    (0..512).find(|&v| left[v])
+    unplaced(nodes, due).iter().position(|&mark| mark)
 }
 
 // Judges a change given as bytes: sound, or the refusal that is given, of those that apply the one with the lowest number,

@@ -28,7 +28,7 @@ impl Setting {
         Setting {
             old: next_values(pair.old),
             new: next_values(pair.new),
-            source: usize::from(house::entry(pair.old, 0)),
+            source: pair.source(),
             mode,
         }
     }

@@ -11,15 +11,15 @@
 --   sized          == a route of 2 to 256 ids has no wrong length
 --   end_place      == the place of an end, by its route's number
 --   ends_old, ends_new == ends that agree do not fail
+--   wrong_spotted, right_spotted == where the test of ends fails first, from the place of the ends that differ
 --   passed_low     == after the test of ids each id is below 512
 --   passed_some    == after the test of lengths a route is not empty
 --   Unmet P n i    == a run up to n has come to i, and P holds of no number before it
 --   unmet_none, unmet_more, unmet_here, unmet_end == the run begins, goes on, stops where P holds, comes to the end
 --   Marked l met i == the marks met are those of the ids of l before the index i, and none of these is a repeat
---   marked_none, marked_more, marked_here, marked_end == the run with marks begins, goes on, meets an id marked, comes to
---                     the end
+--   marked_none, marked_more, marked_here, marked_end == the run with marks begins, goes on, meets an id marked, the first
+--                     repeat, comes to the end
 --   first_at       == the number that a search finds, or its end, is the first number
---   no_first       == in a route with no repeat none is found
 --   FirstOn F z r  == r is where the test F fails first for the route z, or None where it doesn't
 --   first_length, first_id, first_twice == where each of three tests fails first, from its search through one route
 --   either_spotted == where a test over both routes fails first, from the two routes' searches
@@ -79,10 +79,11 @@ use Rattle.routes.specs.Tests.{
   in_old,
   in_new,
   in_neither,
+  WrongEnd,
+  at_firsts,
+  at_lasts,
+  ends_agree,
   LowIds,
-  AnyRepeat,
-  some_repeat,
-  no_repeat,
 }
 
 abbrev pub refusal : Test → ℕ → ℕ → Refusal
@@ -274,6 +275,13 @@ ends_old e k (first_ids h) = h e
 pub ends_new : {o n : List ℕ} → destination o ≡ destination n → (k : ℕ) → Fails o n ends new_side k → ⊥
 ends_new e k (last_ids h) = h e
 
+pub wrong_spotted : {o n : List ℕ} {p : ℕ} → WrongEnd o n (Some p) → Spotted (Fails o n ends) (Some (suc p, p))
+wrong_spotted (at_firsts d) = at_old (first_ids d) (λ k h. absurd (omega arith))
+wrong_spotted (at_lasts e d) = at_new (ends_old e) (last_ids d) (λ k h f. omega (arith, end_place f))
+
+pub right_spotted : {o n : List ℕ} → WrongEnd o n None → Spotted (Fails o n ends) None
+right_spotted (ends_agree e d) = at_none (ends_old e) (ends_new d)
+
 pub passed_low : {o n : List ℕ} → Passed o n 6 → (z : Side) → LowIds (route o n z)
 passed_low {o} {n} P z = record { low = low }
   where
@@ -312,14 +320,14 @@ pub marked_here :
     → i < length l
     → v ≡ get_or l i 0
     → get_or met v false ≡ true
-    → AnyRepeat l true
-marked_here {l} {met} {i} {v} a h e t = some_repeat h (go (a.back v t))
+    → Finds (Repeat l) (length l) (Some i)
+marked_here {l} {met} {i} {v} a h e t = found h (go (a.back v t)) a.run.none_before
   where
     go : (j : ℕ) × (j < i) × (get_or l j 0 ≡ v) → Repeat l i
     go (j, k, s) = (j, k, s ∙ e)
 
-pub marked_end : {l : List ℕ} {met : List Bool} {i : ℕ} → Marked l met i → length l ≤ i → AnyRepeat l false
-marked_end a h = no_repeat (λ k l. a.run.none_before k (omega arith))
+pub marked_end : {l : List ℕ} {met : List Bool} {i : ℕ} → Marked l met i → length l ≤ i → Finds (Repeat l) (length l) None
+marked_end a h = found_none (λ k b. a.run.none_before k (omega arith))
 
 -- a list of falses has no true
 no_mark : (n v : ℕ) → get_or (replicate n false) v false ≡ true → ⊥
@@ -367,9 +375,6 @@ marked_more {l} {met} {i} {v} a h e b f =
 pub first_at : {P : ℕ → Type 0} {n : ℕ} {r : Option ℕ} → Finds P n r → FirstAt P n (unwrap_or r n)
 first_at (found h p f) = record { within = omega arith; none_before = f; found = λ _. p }
 first_at (found_none f) = record { within = omega arith; none_before = f; found = λ h. absurd (omega arith) }
-
-pub no_first : {l : List ℕ} → AnyRepeat l false → Finds (Repeat l) (length l) None
-no_first (no_repeat f) = found_none f
 
 pub data FirstOn (F : Side → ℕ → Type 0) (z : Side) : Option ℕ → Type 0 where
   here : {i : ℕ} → F z i → ((k : ℕ) → k < i → F z k → ⊥) → FirstOn F z (Some i)

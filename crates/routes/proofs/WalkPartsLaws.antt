@@ -14,8 +14,7 @@
 --   reply_unfit      == a set that isn't eight words is refused
 --   reply_judged     == what is refused of the pair is refused of the walk
 --   Tabled old new set ws a b m == eight words ws, tables a and b and marks m that are those of a good pair and its set
---   below            == then the source is an id
---   reply_stray, reply_walked == and then these are the replies where an id of the set isn't due, and else
+--   reply_stray, reply_walked == then these are the replies where an id of the set isn't due, and else
 use Rattle.std.specs.Prelude.{Result, Ok, Err, Some, None}
 use Prim.Native.Nat.{ℕ, zero, suc, ◌+◌, ◌-◌, ◌<◌, ◌≤◌}
 use mathlib.Core.Path.{◌≡◌, refl, sym, ap, ◌∙◌}
@@ -349,9 +348,6 @@ module _ {old new set ws a b : List ℕ} {m : List Bool} (t : Tabled old new set
 
   source_below : source (entries old) < 512
   source_below = good.old.ids 0 (omega (arith, good.old.least))
-
-  pub below : {s : ℕ} → s ≡ source (entries old) → s < 512
-  below e = rw e source_below
 
   the_words : ws ≡ words set
   the_words = t.read ∙ eight_words set t.eight_long

@@ -8,9 +8,10 @@
 --   ill_sized n      == no route has n ids
 --   InEither P Q s   == s is what a search of the old route, which answers P, and then one of the new route, which answers
 --                       Q, find first: the route's number, and the answer
+--   WrongEnd o n r   == r is the place of the ends that differ first, 0 for the first ids and 1 for the last, or None where
+--                       both agree
 --   LowIds l         == each id of l is below 512
---   AnyRepeat l b    == b says whether an id stands twice in l
-use Rattle.std.specs.Prelude.{ℕ, ◌<◌, ◌≡◌, Bool, true, false, List, length, get_or, Option, Some, None, ◌||◌, ltb}
+use Rattle.std.specs.Prelude.{ℕ, ◌<◌, ◌≡◌, Bool, List, length, get_or, Option, Some, None, ◌||◌, ltb}
 use Rattle.routes.specs.Routes.{source, destination, Repeat, Side, old_side, new_side, no, route}
 
 pub data Test : Type 0 where
@@ -42,9 +43,10 @@ pub data InEither (P Q : Option ℕ → Type 0) : Option (ℕ × ℕ) → Type 0
   in_new : {i : ℕ} → P None → Q (Some i) → InEither P Q (Some (2, i))
   in_neither : P None → Q None → InEither P Q None
 
+pub data WrongEnd (o n : List ℕ) : Option ℕ → Type 0 where
+  at_firsts : (source o ≡ source n → ⊥) → WrongEnd o n (Some 0)
+  at_lasts : source o ≡ source n → (destination o ≡ destination n → ⊥) → WrongEnd o n (Some 1)
+  ends_agree : source o ≡ source n → destination o ≡ destination n → WrongEnd o n None
+
 pub record LowIds (l : List ℕ) : Type 0 where
   pub low : (i : ℕ) → i < length l → get_or l i 0 < 512
-
-pub data AnyRepeat (l : List ℕ) : Bool → Type 0 where
-  some_repeat : {i : ℕ} → i < length l → Repeat l i → AnyRepeat l true
-  no_repeat : ((i : ℕ) → i < length l → Repeat l i → ⊥) → AnyRepeat l false

@@ -70,5 +70,5 @@ pub fn jumps(old: &[u8], new: &[u8], node: u16) -> Result<NodeJumps, Refusal>
 pub fn letter(jump: i32) -> u8
     ensures { result ≡ sign jump }
 {
-    if jump < 0 { 66 } else { 70 }
+    if jump < 0 { b'B' } else { b'F' }
 }

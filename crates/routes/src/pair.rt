@@ -7,7 +7,7 @@ ghost use Rattle.std.specs.Bool.{then_some};
 ghost use Rattle.house.specs.Numbers.{entries};
 ghost use Rattle.house.specs.Finds.{Finds};
 ghost use Rattle.routes.specs.Routes.{Good, Repeat, source};
-ghost use Rattle.routes.specs.Tests.{ends, Fails, Spotted, ill_sized, InEither, AnyRepeat, LowIds};
+ghost use Rattle.routes.specs.Tests.{WrongEnd, ill_sized, InEither, LowIds};
 ghost use Rattle.routes.specs.Replies.{Judges};
 
 use house::{Refusal, entry};
@@ -37,7 +37,25 @@ pub struct Nodes<'a> {
     ghost low: { LowIds (entries ids.now) },
 }
 
+impl Nodes<'_> {
+    // The index of the first id that stands before it already, in one run with a mark for each id met.
+    pub fn first_again(&self) -> Option<usize>
+        ensures { Finds (Repeat (entries self.now.ids.now)) (length (entries self.now.ids.now)) result }
+    {
+        let mut met = [false; 512];
+        for i in 0..self.ids.len() / 2 {
+            let v = usize::from(entry(self.ids, i));
+            if met[v] {
+                return Some(i);
+            }
+            met[v] = true;
+        }
+        None
+    }
+}
+
 // What a search finds in the pair first: the route's number, 1 or 2, and what it answers there.
+// Kept: a route is the number 1 or 2, as Told and the theorems on refusals say it.
 fn in_either<T: Copy, F: Fn(T) -> Option<usize>>(old: T, new: T, find: F) -> Option<(usize, usize)>
     requires { F.IsAlwaysCallable find }
     ensures { InEither (F.post find old) (F.post find new) result }
@@ -66,21 +84,6 @@ fn over(route: &[u8]) -> Option<usize>
     (0..route.len() / 2).find(|&i| entry(route, i) > 511)
 }
 
-// Whether an id stands twice in the route, in one run with a mark for each id met.
-fn any_repeat(route: Nodes) -> bool
-    ensures { AnyRepeat (entries route.entry.ids.now) result }
-{
-    let mut met = [false; 512];
-    for i in 0..route.ids.len() / 2 {
-        let v = usize::from(entry(route.ids, i));
-        if met[v] {
-            return true;
-        }
-        met[v] = true;
-    }
-    false
-}
-
 // The index of the route's first repeat: by rising index, each id against all before it, and the search is left at the
 // first repeat found.
 fn first_repeat(route: &[u8]) -> Option<usize>
@@ -100,26 +103,25 @@ fn first_repeat(route: &[u8]) -> Option<usize>
     }
 }
 
-// The index of the route's first repeat. Only a route that has a repeat pays for the search.
+// The index of the route's first repeat. Only a route in which the run with marks meets one pays for the two scans.
 fn repeat(route: Nodes) -> Option<usize>
     ensures { Finds (Repeat (entries route.entry.ids.now)) (length (entries route.entry.ids.now)) result }
 {
-    if any_repeat(route) {
-        return first_repeat(route.ids);
-    }
-    None
+    // Kept: the two scans answer, the form that document 01 names; the run would give the same index.
+    route.first_again()?;
+    first_repeat(route.ids)
 }
 
-// Which of the pair's ends differ: the first ids, as the old route's place 0, or the last, as the new one's place 1.
-fn wrong_end(old: &[u8], new: &[u8]) -> Option<(usize, usize)>
+// Which of the pair's ends differ: the first ids, as the place 0, or the last, as the place 1.
+fn wrong_end(old: &[u8], new: &[u8]) -> Option<usize>
     requires { (0 < length (entries old.now)) × (0 < length (entries new.now)) }
-    ensures { Spotted (Fails (entries old.now) (entries new.now) ends) result }
+    ensures { WrongEnd (entries old.now) (entries new.now) result }
 {
     if entry(old, 0) != entry(new, 0) {
-        return Some((1, 0));
+        return Some(0);
     }
     if entry(old, old.len() / 2 - 1) != entry(new, new.len() / 2 - 1) {
-        return Some((2, 1));
+        return Some(1);
     }
     None
 }
@@ -142,7 +144,7 @@ pub fn judge(old: &[u8], new: &[u8]) -> Result<(), Refusal>
     if let Some((w, i)) = in_either(Nodes { ids: old }, Nodes { ids: new }, repeat) {
         return Err(Refusal::RouteRepeat(w, i));
     }
-    if let Some((_, p)) = wrong_end(old, new) {
+    if let Some(p) = wrong_end(old, new) {
         return Err(Refusal::EndsDiffer(p));
     }
     Ok(())

@@ -5,9 +5,9 @@ ghost use Rattle.house.specs.Sets.{has};
 ghost use Rattle.routes.specs.Replies.{WalkReply};
 ghost use Rattle.routes.specs.WalkParts.{next_in, Goes, Stray};
 
-use crate::pair::judge;
+use crate::pair::{Pair, judge};
 use crate::rule::{HANDED_OFF, NOTHING, due_nodes, next_values};
-use house::{IdSet, Refusal, entry};
+use house::{IdSet, Refusal};
 
 // What the walk answers. Each carries the hops made, the hop back included.
 #[derive(Clone, Copy, Debug, PartialEq, Eq)]
@@ -94,5 +94,5 @@ pub fn walk(old: &[u8], new: &[u8], set: &[u8]) -> Result<Walked, Refusal>
         new: &will,
         changed: &changed,
     };
-    Ok(state.walk_from(usize::from(entry(old, 0))))
+    Ok(state.walk_from(Pair { old, new }.source()))
 }

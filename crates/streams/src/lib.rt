@@ -10,6 +10,7 @@ use std::io::{Read, Write};
 
 // Reads until `buf` is full, the input ends or a read fails. Gives how many bytes it put at the front of `buf`, which are what it took
 // from the input, in order; and the error of the read that failed, if one did. With no error `buf` is full, or the input is at its end.
+// Kept: the number beside the error, since what came before a read that failed counts.
 pub fn read_full<R: Read>(input: &mut R, buf: &mut [u8]) -> (usize, io::Result<()>)
     ensures within { result.0 ≤ length buf.new }
     ensures taken { Consumes (R.remaining input.old) (R.remaining input.new) (take result.0 buf.new) }

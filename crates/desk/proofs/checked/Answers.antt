@@ -12,5 +12,5 @@ returns-in_err-held c =
 
 pub returns : goal.returns
 returns c =
-    content_says (rw (c.old.ensures, c.new.ensures, c.ids.ensures, c.sizes.ensures) c.in_ok-held.ensures.held) c.check.result
+    content_says (rw (c.old_route.ensures, c.new_route.ensures, c.ids.ensures, c.sizes.ensures) c.in_ok-held.ensures.held) c.check.result
     (rw c.requires at c.check.ensures) (search rules)

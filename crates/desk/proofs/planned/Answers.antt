@@ -20,7 +20,7 @@ returns-in_err-held c =
 pub returns-in_err-given : goal.returns-in_err-given
 returns-in_err-given c =
     let e : c.from_residual-in_err-given.result ≡ Err c.in_err-given.field-0.0 = search rules in
-    rw e (plan_refused (rw (sym c.old-old.ensures, sym c.new-new.ensures) at c.in_ok-held.ensures.held) (rw c.in_err-given.was at c.plan.ensures), refl)
+    rw e (plan_refused (rw (sym c.old_route-old.ensures, sym c.new_route-new.ensures) at c.in_ok-held.ensures.held) (rw c.in_err-given.was at c.plan.ensures), refl)
 
 pub overflow_mul-ids : goal.overflow_mul-ids
 overflow_mul-ids c = omega (arith, (within (goal.at.overflow_mul-ids c).In_ok-given).0)
@@ -42,5 +42,5 @@ slice_bounds-write-end-2 c = sym (length-take-le _ _ (within (goal.at.slice_boun
 
 pub returns : goal.returns
 returns c =
-    plan_written (rw (sym c.old-old.ensures, sym c.new-new.ensures) at c.in_ok-held.ensures.held) (rw c.in_ok-given.was at c.plan.ensures)
+    plan_written (rw (sym c.old_route-old.ensures, sym c.new_route-new.ensures) at c.in_ok-held.ensures.held) (rw c.in_ok-given.was at c.plan.ensures)
     c.write.ensures (omega arith)

@@ -27,13 +27,13 @@ at_tables c T t = let g = c.graph-graph.ensures in rw (g.old, g.new, g.choice) a
 pub returns-then-eq : goal.returns-then-eq
 returns-then-eq c =
     let g = (goal.at.returns-then-eq c).After-graph-graph in
-    tried_strong c.told-choice c.requires.free c.requires.fits (next g) (search rules) _
+    tried_strong c.told-choice c.requires.free (c.requires.fits, c.requires.marks) (next g) (search rules) _
     (at_tables g (λ o n q. Leads o n q c.from-w.result c.args.v c.leads.result) c.leads.ensures)
 
 pub returns-then-not-seen-v : goal.returns-then-not-seen-v
 returns-then-not-seen-v c =
     let g = (goal.at.returns-then-not-seen-v c).After-graph-graph in
-    tried_unseen c.told-choice c.requires.free c.requires.fits (next g) (λ k. search rules) c.if-not-seen-v.true
+    tried_unseen c.told-choice c.requires.free (c.requires.fits, c.requires.marks) (next g) (λ k. search rules) c.if-not-seen-v.true
 
 pub returns-then-more-v : goal.returns-then-more-v
 returns-then-more-v c =
@@ -41,16 +41,16 @@ returns-then-more-v c =
     let x = at_tables g (λ o n q. Reached o n q c.from-w.result c.reach-more.result) c.reach-more.ensures in
     elim c.then-more-v.branch [
       | then-more-v-via-then-more-v w ↦
-          tried_back c.told-choice c.requires.free c.requires.fits (next g) (λ k. search rules) c.if-not-seen-v.false x w.if-more-v.true
+          tried_back c.told-choice c.requires.free (c.requires.fits, c.requires.marks) (next g) (λ k. search rules) c.if-not-seen-v.false x w.if-more-v.true
       | then-more-v-via-else-more-v+then-closes w ↦
-          tried_closes c.told-choice c.requires.free c.requires.fits (next g) (λ k. search rules) c.if-not-seen-v.false x
+          tried_closes c.told-choice c.requires.free (c.requires.fits, c.requires.marks) (next g) (λ k. search rules) c.if-not-seen-v.false x
           (at_tables g (λ o n q. Closing o n q c.args.seen.now c.reach-more.result true) w.if-closes.ensures)
     ]
 
 pub returns : goal.returns
 returns c =
     let g = (goal.at.returns c).After-graph-graph in
-    tried_seen c.told-choice c.requires.free c.requires.fits (next g) (λ k. search rules) c.if-not-seen-v.false
+    tried_seen c.told-choice c.requires.free (c.requires.fits, c.requires.marks) (next g) (λ k. search rules) c.if-not-seen-v.false
     (at_tables g (λ o n q. Reached o n q c.from-w.result c.reach-more.result) c.reach-more.ensures)
     c.if-more-v.false
     (at_tables g (λ o n q. Closing o n q c.args.seen.now c.reach-more.result false) c.if-closes.ensures)

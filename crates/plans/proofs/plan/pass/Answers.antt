@@ -3,13 +3,16 @@ use Rattle.plans.proofs.plan.pass.Goals as goal
 use Rattle.plans.proofs.plan.pass.Goals.{then-may_join, else-may_join}
 
 pub loop-i-init : goal.loop-i-init
-loop-i-init c = pass_begins c.requires.0 c.requires.1 c.glance-seen.ensures
+loop-i-init c = pass_begins c.requires.lined c.requires.fits c.glance-seen.ensures
 
 pub may_join-requires-clause-free : goal.may_join-requires-clause-free
 may_join-requires-clause-free c = rw c.from-v.ensures (pass_free c.loop-i.invariant c.loop-i-test.true)
 
 pub may_join-requires-clause-fits : goal.may_join-requires-clause-fits
-may_join-requires-clause-fits c = (c.loop-i.invariant.fits, c.loop-i.invariant.marks)
+may_join-requires-clause-fits c = c.loop-i.invariant.fits
+
+pub may_join-requires-clause-marks : goal.may_join-requires-clause-marks
+may_join-requires-clause-marks c = c.loop-i.invariant.marks
 
 pub loop-i-preserved : goal.loop-i-preserved
 loop-i-preserved c =

@@ -7,11 +7,11 @@ use Rattle.plans.proofs.SeekLaws.{backward_begins, backward_skips, backward_take
 use Rattle.plans.proofs.plan.switches.Goals as goal
 
 pub loop-i-init : goal.loop-i-init
-loop-i-init c = backward_begins _ _ _ (omega (arith, length_entries c.args.route.now)) refl
+loop-i-init c = backward_begins _ _ _ (omega (arith, length_entries c.args.pair.now.new.now)) refl
 
 pub loop-i-preserved-then-eq : goal.loop-i-preserved-then-eq
 loop-i-preserved-then-eq c =
-    backward_takes (c.loop-i.i - 1) c.loop-i.invariant (omega (arith, c.loop-i-test.true)) c.entry-id.ensures c.requires.most
+    backward_takes (c.loop-i.i - 1) c.loop-i.invariant (omega (arith, c.loop-i-test.true)) c.entry-id.ensures c.args.pair.now.good.new.most
     (search rules)
 
 pub loop-i-preserved : goal.loop-i-preserved

@@ -5,4 +5,4 @@ use Rattle.plans.specs.Working.{Backward}
 use Rattle.plans.proofs.plan.switches.Given as goal
 
 abbrev pub invariant-loop-i : goal.invariant-loop-i
-invariant-loop-i l = Backward l.setting.old l.setting.new (entries l.route) l.i l.waiting.nodes l.waiting.many
+invariant-loop-i l = Backward l.setting.old l.setting.new (entries l.pair.new.now) l.i l.waiting.nodes l.waiting.many

@@ -18,6 +18,8 @@ use Rattle.routes.proofs.TestLaws.{
   first_id,
   first_twice,
   either_spotted,
+  wrong_spotted,
+  right_spotted,
 }
 use Rattle.routes.proofs.pair.judge.Goals as goal
 use Rattle.routes.proofs.pair.judge.Goals.{
@@ -105,10 +107,10 @@ pub returns-in-Some-wrong_end : goal.returns-in-Some-wrong_end
 returns-in-Some-wrong_end c =
     faulty
     (judged_first (whole c.if-old-ne0.false) (whole c.if-new-ne0.false)
-    (passed_first ends (past_repeats (goal.at.returns-in-Some-wrong_end c).In_default-in_either-2) c.in-Some-wrong_end.ensures))
+    (passed_first ends (past_repeats (goal.at.returns-in-Some-wrong_end c).In_default-in_either-2) (wrong_spotted c.in-Some-wrong_end.ensures)))
 
 pub returns : goal.returns
 returns c =
     sound
     (judged_clear (whole c.if-old-ne0.false) (whole c.if-new-ne0.false)
-    (passed_clear (passed_more ends (past_repeats (goal.at.returns c).In_default-in_either-2) c.in_default-wrong_end.ensures)))
+    (passed_clear (passed_more ends (past_repeats (goal.at.returns c).In_default-in_either-2) (right_spotted c.in_default-wrong_end.ensures))))

@@ -6,9 +6,8 @@ use native.Mathlib.Omega.{arith}
 use lib.ListN.{length, get_or}
 use Rattle.house.specs.Numbers.{entries}
 use Rattle.house.proofs.NumberLaws.{length_entries}
-use Rattle.routes.specs.Routes.{source, destination}
-use Rattle.routes.specs.Tests.{first_ids, last_ids}
-use Rattle.routes.proofs.TestLaws.{at_old, at_new, at_none, end_place, ends_old, ends_new}
+use Rattle.routes.specs.Routes.{destination}
+use Rattle.routes.specs.Tests.{at_firsts, at_lasts, ends_agree}
 use Rattle.routes.proofs.pair.wrong_end.Goals as goal
 
 -- what the code reads last is the destination
@@ -16,9 +15,7 @@ last : (b : List ℕ) {r : ℕ} → r ≡ get_or (entries b) (length b / 2 - 1) 
 last b e = rw (length_entries b) e
 
 pub returns-then-entry : goal.returns-then-entry
-returns-then-entry c =
-    at_old (first_ids (λ e. c.if-entry.true (c.entry.ensures ∙ e ∙ sym c.entry-2.ensures)))
-    (λ k h. absurd (omega arith))
+returns-then-entry c = at_firsts (λ e. c.if-entry.true (c.entry.ensures ∙ e ∙ sym c.entry-2.ensures))
 
 pub overflow_sub-old : goal.overflow_sub-old
 overflow_sub-old c = omega (arith, length_entries c.args.old.now)
@@ -28,17 +25,10 @@ overflow_sub-new c = omega (arith, length_entries c.args.new.now)
 
 pub returns-then-entry-2 : goal.returns-then-entry-2
 returns-then-entry-2 c =
-    -- past the first test the first ids are the same
-    let firsts : source (entries c.args.old.now)
-    ≡ source (entries c.args.new.now) = sym c.entry.ensures ∙ c.if-entry.false ∙ c.entry-2.ensures in
-    at_new (ends_old firsts)
-    (last_ids (λ e. c.if-entry-2.true (last _ c.entry-3.ensures ∙ e ∙ sym (last _ c.entry-4.ensures))))
-    (λ k h f. omega (arith, end_place f))
+    at_lasts (sym c.entry.ensures ∙ c.if-entry.false ∙ c.entry-2.ensures)
+    (λ e. c.if-entry-2.true (last _ c.entry-3.ensures ∙ e ∙ sym (last _ c.entry-4.ensures)))
 
 pub returns : goal.returns
 returns c =
-    -- past the first test the first ids are the same
-    let firsts : source (entries c.args.old.now)
-    ≡ source (entries c.args.new.now) = sym c.entry.ensures ∙ c.if-entry.false ∙ c.entry-2.ensures in
-    at_none (ends_old firsts)
-    (ends_new (sym (last _ c.entry-3.ensures) ∙ c.if-entry-2.false ∙ last _ c.entry-4.ensures))
+    ends_agree (sym c.entry.ensures ∙ c.if-entry.false ∙ c.entry-2.ensures)
+    (sym (last _ c.entry-3.ensures) ∙ c.if-entry-2.false ∙ last _ c.entry-4.ensures)

@@ -1,16 +1,12 @@
 -- `routes::walk::stray` meets its contract: the closure's answer says whether the id is `Stray`.
-use Prim.Native.Nat.{ℕ}
 use borrow.Author.Rules.{rules}
 use borrow.Author.Tests.{tests}
-use Rattle.std.proofs.lemmas.Iterator.{first_from_Range}
 use Rattle.house.proofs.Finding.{finds_in}
 use Rattle.routes.specs.WalkParts.{Stray}
 use Rattle.routes.proofs.walk.stray.Goals as goal
 
 pub returns : goal.returns
 returns c =
-    let At : ℕ → Type 0 = Stray c.args.set.now.words c.args.due.now in
-    finds_in
-    (first_from_Range _ _ _ _ At (λ i. At i → ⊥) c.find.ensures.ran
+    finds_in {P = Stray c.args.set.now.words c.args.due.now} _ c.find.ensures.ran
     (λ i q k. record { member = search (rules, tests); unmarked = search (rules, tests) })
-    (λ i q k. (search rules, λ s. search (rules, tests, s.member, s.unmarked))))
+    (λ i q k. (search rules, λ s. search (rules, tests, s.member, s.unmarked)))

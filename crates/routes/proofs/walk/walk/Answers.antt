@@ -1,12 +1,12 @@
 -- `routes::walk::walk` meets its contract: each return is one of the replies, from what the parts called before it ensure.
-use mathlib.Core.Path.{◌≡◌, ◌∙◌}
+use mathlib.Core.Path.{◌≡◌}
 use borrow.Author.Rules.{rules}
 use Rattle.std.specs.Prelude.{Err}
+use Rattle.routes.proofs.PairLaws.{judges_good}
 use Rattle.routes.proofs.WalkPartsLaws.{
   judged_first,
   judged_clear,
   Tabled,
-  below,
   reply_unfit,
   reply_judged,
   reply_stray,
@@ -40,14 +40,12 @@ returns-in_err-judge c =
 pub returns-in-Some : goal.returns-in-Some
 returns-in-Some c = reply_stray (tabled (goal.at.returns-in-Some c).After-due_nodes) c.in-Some.ensures
 
-pub walk_from-requires : goal.walk_from-requires
-walk_from-requires c =
-    below (tabled (goal.at.walk_from-requires c).After-due_nodes)
-    (c.from.ensures ∙ c.entry.ensures)
+pub invariant_of-source : goal.invariant_of-source
+invariant_of-source c = record { good = judges_good c.in_ok-judge.ensures }
 
 pub returns : goal.returns
 returns c =
     reply_walked (tabled (goal.at.returns c).After-due_nodes)
     c.in_default.ensures
-    (c.from.ensures ∙ c.entry.ensures)
+    c.source.ensures.is
     c.walk_from.ensures
