@@ -1,6 +1,6 @@
 #![tactic(auto)]
 
-ghost use Rattle.std.specs.Prelude.{◌≡◌, ◌+◌, ◌<◌, ◌≤◌, true, false, get_or, set, replicate, ◌⊎◌, IsNone, IfSome};
+ghost use Rattle.std.specs.Prelude.{◌≡◌, ◌+◌, ◌<◌, ◌≤◌, true, false, get_or, set, ◌⊎◌, IsNone, IfSome};
 ghost use Rattle.graph.specs.Search.{Reached, Leads, Cyclic, Steps};
 ghost use Rattle.graph.specs.Graph.{Path};
 ghost use Rattle.graph.specs.Working.{nexts, Room, Visited, Offered, Tally, Peeled};
@@ -16,23 +16,26 @@ pub const NEW: u8 = 1;
 pub const EITHER: u8 = 2;
 
 // Numbers in the order of their coming: those from the head on wait.
+// Kept: the array is lent and no part of the struct, since head and tail stay in registers only apart from an array stored into.
 #[derive(Drop)]
-struct Queue<const N: usize> {
-    items: [u16; N],
+struct Queue<'a, const N: usize> {
+    items: &'a mut [u16; N],
     head: usize,
     tail: usize,
     ghost room: { tail ≤ N },
+    ghost few: { N < 65536 },
 }
 
-impl<const N: usize> Queue<N> {
+impl<'a, const N: usize> Queue<'a, N> {
     // None has come.
-    fn new() -> Self
-        ensures items { result.items ≡ replicate N 0 }
+    fn new(items: &'a mut [u16; N]) -> Self
+        requires few { N < 65536 }
+        ensures items { result.items.now ≡ items.old }
         ensures head { result.head ≡ 0 }
         ensures tail { result.tail ≡ 0 }
     {
         Queue {
-            items: [0; N],
+            items,
             head: 0,
             tail: 0,
         }
@@ -42,7 +45,7 @@ impl<const N: usize> Queue<N> {
     fn push(&mut self, w: usize)
         requires room { self.old.tail < N }
         requires fits { w < 65536 }
-        ensures items { self.new.items ≡ set self.old.items self.old.tail w }
+        ensures items { self.new.items.now ≡ set self.old.items.now self.old.tail w }
         ensures head { self.new.head ≡ self.old.head }
         ensures tail { self.new.tail ≡ self.old.tail + 1 }
     {
@@ -52,13 +55,15 @@ impl<const N: usize> Queue<N> {
 
     // Takes the number at the head, if one waits there.
     fn pop(&mut self) -> Option<usize>
-        ensures none { IsNone result → (self.old.tail ≤ self.old.head) × (self.new ≡ self.old) }
+        ensures items { self.new.items ≡ self.old.items }
+        ensures tail { self.new.tail ≡ self.old.tail }
+        ensures none { IsNone result → (self.old.tail ≤ self.old.head) × (self.new.head ≡ self.old.head) }
         ensures some { IfSome
             result
             (λ v.
             (self.old.head < self.old.tail)
-            × (v ≡ get_or self.old.items self.old.head 0)
-            × (self.new ≡ record self.old { head = self.old.head + 1 })) }
+            × (v ≡ get_or self.old.items.now self.old.head 0)
+            × (self.new.head ≡ self.old.head + 1)) }
     {
         if self.head < self.tail {
             let v = usize::from(self.items[self.head]);
@@ -70,36 +75,38 @@ impl<const N: usize> Queue<N> {
     }
 }
 
-// How far a search has come: the marks of the numbers that it came to, and these numbers in a queue.
+// How far a search has come: the marks of the numbers that it came to, and these numbers in a queue. The marks are lent,
+// as the queue's array is.
 #[derive(Drop)]
-struct Search {
-    seen: [bool; 514],
-    queue: Queue<514>,
+struct Search<'a> {
+    seen: &'a mut [bool; 514],
+    queue: Queue<'a, 514>,
 }
 
-impl Search {
+impl<'a> Search<'a> {
     // Nothing is marked, and none waits.
-    fn new() -> Self
-        ensures room { Room result.seen result.queue.items result.queue.tail }
+    fn new(seen: &'a mut [bool; 514], items: &'a mut [u16; 514]) -> Self
+        requires { Room seen.old items.old 0 }
+        ensures room { Room result.seen.now result.queue.items.now result.queue.tail }
         ensures empty { (result.queue.head ≡ 0) × (result.queue.tail ≡ 0) }
     {
         Search {
-            seen: [false; 514],
-            queue: Queue::new(),
+            seen,
+            queue: Queue::new(items),
         }
     }
 
     // Marks w and puts it into the queue, unless it has no mark of its own or is marked already. There is room, because the queue
     // holds what is marked and w is not.
     fn visit(&mut self, w: usize)
-        requires { Room self.old.seen self.old.queue.items self.old.queue.tail }
+        requires { Room self.old.seen.now self.old.queue.items.now self.old.queue.tail }
         ensures visited { Visited
-            self.old.seen
-            self.old.queue.items
+            self.old.seen.now
+            self.old.queue.items.now
             self.old.queue.tail
             w
-            self.new.seen
-            self.new.queue.items
+            self.new.seen.now
+            self.new.queue.items.now
             self.new.queue.tail }
         ensures head { self.new.queue.head ≡ self.old.queue.head }
     {
@@ -112,15 +119,15 @@ impl Search {
     // Marks all numbers to which a path from start leads, or as many of them as are enough. The start is visited first, and then
     // the next values of each node in the queue, until none is left.
     fn run<F: Fn(&[bool; 514]) -> bool>(&mut self, graph: &Graph, start: usize, enough: F)
-        requires room { Room self.old.seen self.old.queue.items self.old.queue.tail }
+        requires room { Room self.old.seen.now self.old.queue.items.now self.old.queue.tail }
         requires empty { (self.old.queue.head ≡ 0) × (self.old.queue.tail ≡ 0) }
         requires callable { F.IsAlwaysCallable enough }
-        ensures reached { (w : _) → get_or self.new.seen w false ≡ true → Path (Steps graph.now.old.now graph.now.new.now graph.now.choice.now) w start }
-        ensures all { Reached graph.now.old.now graph.now.new.now graph.now.choice.now start self.new.seen ⊎ FnReturnsAt F.Fn enough self.new.seen true }
+        ensures reached { (w : _) → get_or self.new.seen.now w false ≡ true → Path (Steps graph.now.old.now graph.now.new.now graph.now.choice.now) w start }
+        ensures all { Reached graph.now.old.now graph.now.new.now graph.now.choice.now start self.new.seen.now ⊎ FnReturnsAt F.Fn enough self.new.seen.now true }
     {
         self.visit(start);
         while let Some(v) = self.queue.pop() {
-            if enough(&self.seen) {
+            if enough(self.seen) {
                 break;
             }
             if v < 512 {
@@ -132,25 +139,25 @@ impl Search {
     }
 }
 
-// How far a peeling has come: what remains of the set, and the nodes taken away in a queue.
+// How far a peeling has come: what remains of the set, lent too, and the nodes taken away in a queue.
 #[derive(Drop)]
-struct Peeling {
-    rest: [bool; 512],
-    queue: Queue<512>,
+struct Peeling<'a> {
+    rest: &'a mut [bool; 512],
+    queue: Queue<'a, 512>,
 }
 
-impl Peeling {
+impl Peeling<'_> {
     // Takes w away, if it is a node that remains and no step is counted into it.
     fn offer(&mut self, count: &[u16; 512], w: usize)
-        requires { get_or self.old.rest w false ≡ true → self.old.queue.tail < 512 }
+        requires { get_or self.old.rest.now w false ≡ true → self.old.queue.tail < 512 }
         ensures offered { Offered
-            self.old.rest
+            self.old.rest.now
             count.now
-            self.old.queue.items
+            self.old.queue.items.now
             self.old.queue.tail
             w
-            self.new.rest
-            self.new.queue.items
+            self.new.rest.now
+            self.new.queue.items.now
             self.new.queue.tail }
         ensures head { self.new.queue.head ≡ self.old.queue.head }
     {
@@ -212,9 +219,11 @@ impl Graph<'_> {
         ensures { Peeled self.now.old.now self.now.new.now self.now.choice.now alive.now result }
     {
         let mut count = self.counts(alive);
+        let mut rest = *alive;
+        let mut items = [0; 512];
         let mut peeling = Peeling {
-            rest: *alive,
-            queue: Queue::new(),
+            rest: &mut rest,
+            queue: Queue::new(&mut items),
         };
         for w in 0..512 {
             peeling.offer(&count, w);
@@ -237,9 +246,11 @@ impl Graph<'_> {
     pub fn reach(&self, start: usize) -> [bool; 514]
         ensures { Reached self.now.old.now self.now.new.now self.now.choice.now start result }
     {
-        let mut search = Search::new();
+        let mut seen = [false; 514];
+        let mut items = [0; 514];
+        let mut search = Search::new(&mut seen, &mut items);
         search.run(self, start, |_| false);
-        search.seen
+        *search.seen
     }
 
     // Whether a path leads from `from` to the number `to`; to a number over 513 it says no. It takes no longer than the search
@@ -250,9 +261,13 @@ impl Graph<'_> {
         if to >= 514 {
             return false;
         }
-        let mut search = Search::new();
+        let mut seen = [false; 514];
+        let mut items = [0; 514];
+        let mut search = Search::new(&mut seen, &mut items);
         search.run(self, from, |seen| seen[to]);
-        search.seen[to]
+        // Kept: taken apart, since the borrow checker doesn't cover `search.seen[to]`.
+        let Search { seen, .. } = search;
+        seen[to]
     }
 
     // Whether a closed path lies within the set: whether peeling leaves nodes of it.

@@ -39,8 +39,9 @@ loop-w-2-preserved c =
 
 pub loop-w-3-init : goal.loop-w-3-init
 loop-w-3-init c =
-    let (l, e, n) = c.in-Some.ensures.some in
-    (refl, rw n (offering_begins _ _ c.loop-v.invariant l e c.nexts-nexts.ensures c.loop-w-2.invariant (omega arith)))
+    let p = c.in-Some.ensures in
+    let (l, e, n) = p.some in
+    (refl, rw (p.items, n, p.tail) (offering_begins _ _ c.loop-v.invariant l e c.nexts-nexts.ensures c.loop-w-2.invariant (omega arith)))
 
 pub offer-requires-in-loop-w-3 : goal.offer-requires-in-loop-w-3
 offer-requires-in-loop-w-3 c = peel_room c.loop-w-3.invariant.1.peel _
@@ -51,4 +52,4 @@ loop-w-3-preserved c =
     (h ∙ c.loop-w-3.invariant.0, rw h (offering_more c.loop-w-3.invariant.1 refl c.offer-in-loop-w-3.ensures.offered))
 
 pub returns : goal.returns
-returns c = let (l, e) = c.in_default.ensures.none refl in rw e (peel_ends c.loop-v.invariant l)
+returns c = let p = c.in_default.ensures in rw p.tail (peel_ends c.loop-v.invariant (p.none refl).0)

@@ -11,14 +11,14 @@ use Rattle.graph.proofs.Graph.peeled.Given as goal
 
 abbrev pub invariant-loop-w : goal.invariant-loop-w
 invariant-loop-w l =
-    Peel l.self.old.now l.self.new.now l.self.choice.now l.alive l.peeling.rest l.count l.peeling.queue.items
+    Peel l.self.old.now l.self.new.now l.self.choice.now l.alive l.peeling.rest.now l.count l.peeling.queue.items.now
     l.peeling.queue.head
     l.peeling.queue.tail
-    × Busy l.peeling.rest l.count l.w
+    × Busy l.peeling.rest.now l.count l.w
 
 abbrev pub invariant-loop-v : goal.invariant-loop-v
 invariant-loop-v l =
-    Peeling l.self.old.now l.self.new.now l.self.choice.now l.alive l.peeling.rest l.count l.peeling.queue.items
+    Peeling l.self.old.now l.self.new.now l.self.choice.now l.alive l.peeling.rest.now l.count l.peeling.queue.items.now
     l.peeling.queue.head
     l.peeling.queue.tail
 
@@ -31,7 +31,7 @@ invariant-loop-w-2 l = Plus l.count (times l.w-items l.w-index) l.initial.count
 abbrev pub invariant-loop-w-3 : goal.invariant-loop-w-3
 invariant-loop-w-3 l =
     (l.peeling.queue.head ≡ l.initial.peeling.queue.head)
-    × Offering l.self.old.now l.self.new.now l.self.choice.now l.alive l.peeling.rest l.count l.peeling.queue.items
+    × Offering l.self.old.now l.self.new.now l.self.choice.now l.alive l.peeling.rest.now l.count l.peeling.queue.items.now
     l.peeling.queue.head
     l.peeling.queue.tail
     l.w-items

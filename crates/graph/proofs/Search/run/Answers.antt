@@ -22,8 +22,9 @@ loop-v-preserved-in-loop-w g c = follow_ends c.loop-w.invariant.1 c.loop-w-test.
 
 pub loop-v-preserved : goal.loop-v-preserved
 loop-v-preserved g c =
-    let (l, e, n) = c.in-Some.ensures.some in
-    rw n (follow_end _ c.loop-v.invariant l e c.if-v-lt512.false)
+    let p = c.in-Some.ensures in
+    let (l, e, n) = p.some in
+    rw (p.items, n, p.tail) (follow_end _ c.loop-v.invariant l e c.if-v-lt512.false)
 
 pub returns-clause-all : goal.returns-clause-all
 returns-clause-all g c =

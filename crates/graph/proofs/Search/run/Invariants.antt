@@ -9,7 +9,7 @@ use Rattle.graph.proofs.Search.run.Given as goal
 
 abbrev pub invariant-loop-v : goal.invariant-loop-v
 invariant-loop-v g l =
-    Begun l.graph.old.now l.graph.new.now l.graph.choice.now l.start l.self.seen l.self.queue.items l.self.queue.head
+    Begun l.graph.old.now l.graph.new.now l.graph.choice.now l.start l.self.seen.now l.self.queue.items.now l.self.queue.head
     l.self.queue.tail
 
 abbrev pub decreases-loop-v : goal.decreases-loop-v
@@ -18,7 +18,7 @@ decreases-loop-v g l = 514 - l.self.queue.head
 abbrev pub invariant-loop-w : goal.invariant-loop-w
 invariant-loop-w g l =
     (l.self.queue.head ≡ l.initial.self.queue.head)
-    × Following l.graph.old.now l.graph.new.now l.graph.choice.now l.start l.self.seen l.self.queue.items l.self.queue.head
+    × Following l.graph.old.now l.graph.new.now l.graph.choice.now l.start l.self.seen.now l.self.queue.items.now l.self.queue.head
     l.self.queue.tail
     l.v
     l.w-items
