@@ -48,9 +48,11 @@ fn difference(a: usize, b: usize) -> i32
 fn by(pair: Pair, node: u16) -> Option<i32>
     ensures { JumpIn (entries pair.entry.old.now) (entries pair.entry.new.now) node result }
 {
+    // both places come before the search: a node that is on one route alone costs no more than two scans
+    let own = position(pair.old, node)?;
     let from = position(pair.new, node)? + 1;
     let met = meet(pair.new, pair.old, from)?;
-    Some(difference(met, position(pair.old, node)?))
+    Some(difference(met, own))
 }
 
 // The jumps of `node`: the refusal of the pair where it isn't good, the refusal of the node where it has none, and else the
