@@ -1,38 +1,55 @@
 -- Laws of marks: those of one list that another has not, and those of two lists. Assumes nothing.
 --
---   fresh_made, merged_made == the marks that are new, and the marks of both, made one by one
+--   newly m k, both m k  == which marks k has and m has not, and which one of them has
+--   Marking f m m' n i   == the n marks m' are as f says below i, and as those of m from i on
+--   marking_begins, marking_more == nothing is marked yet, and one mark more
+--   fresh_made, merged   == all nodes that are new are marked, and all that one of both lists marks
 --   fresh_high           == past the last node none is new
 --   closing_none         == where none is new, no closed path lies among them
-use Prim.Native.Nat.{ℕ, ◌<◌, ◌≤◌}
+use Prim.Native.Nat.{ℕ, ◌+◌, ◌<◌, ◌≤◌}
 use native.Mathlib.Omega.{arith}
-use native.Mathlib.Decide.{dec_lt}
-use mathlib.Core.Path.{◌≡◌}
+use native.Mathlib.Decide.{dec_lt, ℕ_discrete}
+use mathlib.Core.Path.{◌≡◌, refl, ◌∙◌}
 use mathlib.Core.Bool.{Bool, true, false, not, ◌&&◌, ◌||◌}
 use mathlib.Core.List.{List}
-use lib.ListN.{get_or, get_or-eq_default}
-use denote.Param.Members.{Mut}
-use Rattle.std.specs.Array.{IsFromFnResult}
-use Rattle.std.specs.Fn.{Called}
+use lib.ListN.{length, get_or, set, length-set, get_or-eq_default}
+use lib.Seq.{get_or-set_same, get_or-set_other}
 use Rattle.graph.specs.Search.{Steps, Marked}
-use Rattle.routes.proofs.RuleLaws.{made_at}
 use Rattle.graph.proofs.Peel.{peel_empty}
 use Rattle.plans.specs.Working.{Fresh, Closing, Merged}
 use Rattle.plans.proofs.IdLists.{clash}
 
-module _ {F : Type 0} {g : Mut F (ℕ × Unit {0}) Bool} {h : F} {m k f : List Bool} where
-  pub fresh_made :
-      IsFromFnResult g h f 512
-      → ((i : ℕ) (y : Bool) (q : F) → Called g h (i, tt) y q → (q ≡ h) × (y ≡ (get_or k i false && not (get_or m i false))))
-      → Fresh m k f
-  fresh_made x same =
-      record { size = x.long; at = λ v l. made_at (λ i. get_or k i false && not (get_or m i false)) x same v false l }
+abbrev pub newly : List Bool → List Bool → ℕ → Bool
+newly m k v = get_or k v false && not (get_or m v false)
 
-  pub merged_made :
-      IsFromFnResult g h f 514
-      → ((i : ℕ) (y : Bool) (q : F) → Called g h (i, tt) y q → (q ≡ h) × (y ≡ (get_or m i false || get_or k i false)))
-      → Merged m k f
-  merged_made x same =
-      record { size = x.long; at = λ v l. made_at (λ i. get_or m i false || get_or k i false) x same v false l }
+abbrev pub both : List Bool → List Bool → ℕ → Bool
+both m k v = get_or m v false || get_or k v false
+
+pub record Marking (f : ℕ → Bool) (m m' : List Bool) (n i : ℕ) : Type 0 where
+  pub size : length m' ≡ n
+  pub below : (v : ℕ) → v < i → get_or m' v false ≡ f v
+  pub past : (v : ℕ) → i ≤ v → get_or m' v false ≡ get_or m v false
+
+pub marking_begins : (f : ℕ → Bool) (m : List Bool) {n : ℕ} → length m ≡ n → Marking f m m n 0
+marking_begins f m e = record { size = e; below = λ v h. absurd (omega arith); past = λ v h. refl }
+
+pub marking_more : {f : ℕ → Bool} {m m' : List Bool} {n i : ℕ} {y : Bool} → Marking f m m' n i → i < n → y ≡ f i → Marking f m (set m' i y) n (i + 1)
+marking_more {f} {m} {m'} {n} {i} {y} s h e =
+    record {
+      size = length-set m' i y ∙ s.size;
+      below = λ v l. go v l (ℕ_discrete v i);
+      past = λ v l. get_or-set_other m' i v y false (λ q. omega arith) ∙ s.past v (omega arith);
+    }
+  where
+    go : (v : ℕ) → v < i + 1 → Dec (v ≡ i) → get_or (set m' i y) v false ≡ f v
+    go v l (yes q) = rw q (get_or-set_same m' i y false (omega (arith, s.size)) ∙ e)
+    go v l (no d) = get_or-set_other m' i v y false (λ q. d (omega arith)) ∙ s.below v (omega arith)
+
+pub fresh_made : {m k z f : List Bool} → Marking (newly m k) z f 512 512 → Fresh m k f
+fresh_made s = record { size = s.size; at = s.below }
+
+pub merged : {m k m' : List Bool} → Marking (both m k) m m' 514 514 → Merged m k m'
+merged s = record { size = s.size; at = s.below }
 
 pub fresh_high : {m k f : List Bool} → Fresh m k f → (v : ℕ) → 512 ≤ v → get_or f v false ≡ false
 fresh_high {f} s v h = get_or-eq_default f false {n = v} (omega (arith, s.size))

@@ -94,7 +94,7 @@ shown_chooses {c = c} s = record { at = λ v h. rw (s.earlier v, s.here v) (go (
 
 module _ {o n : List ℕ} {y : Setting} (g : SettingOf o n y) where
   module _ {P R : State} {c : List ℕ} (w : Shown P R c) where
-    finds_closes : (mode : ℕ) → Finds a_loop mode o n (round_choice P R) → Closes mode y.old y.new c y.source
+    finds_closes : (mode : ℕ) → Finds a_loop mode o n (round_choice P R) → Closes mode y.old.now y.new.now c y.source
     finds_closes zero (v, A) = (v, (around_same g.olds g.news (shown_chooses w) v).1 A)
     finds_closes (suc k) (v, Q, A) = (
       v,
@@ -102,7 +102,7 @@ module _ {o n : List ℕ} {y : Setting} (g : SettingOf o n y) where
       (around_same g.olds g.news (shown_chooses w) v).1 A,
     )
 
-    closes_finds : (mode : ℕ) → Closes mode y.old y.new c y.source → Finds a_loop mode o n (round_choice P R)
+    closes_finds : (mode : ℕ) → Closes mode y.old.now y.new.now c y.source → Finds a_loop mode o n (round_choice P R)
     closes_finds zero (v, A) = (v, (around_same g.olds g.news (shown_chooses w) v).0 A)
     closes_finds (suc k) (v, Q, A) = (
       v,
@@ -110,14 +110,14 @@ module _ {o n : List ℕ} {y : Setting} (g : SettingOf o n y) where
       (around_same g.olds g.news (shown_chooses w) v).0 A,
     )
 
-    pub fits_passes : {mode : ℕ} → Midway o n P R → Fits mode y.old y.new c y.source → RoundPasses mode o n P R
+    pub fits_passes : {mode : ℕ} → Midway o n P R → Fits mode y.old.now y.new.now c y.source → RoundPasses mode o n P R
     fits_passes {mode} m f = (passes_finds g.good mode P R).1 none
       where
         none : (x : Fault) → Finds x mode o n (round_choice P R) → ⊥
         none a_drop Q = midway_no_drop g.good m Q
         none a_loop l = f.fits (finds_closes mode l)
 
-    pub passes_fits : {mode : ℕ} → RoundPasses mode o n P R → Fits mode y.old y.new c y.source
+    pub passes_fits : {mode : ℕ} → RoundPasses mode o n P R → Fits mode y.old.now y.new.now c y.source
     passes_fits {mode} p = record { fits = λ l. (passes_finds g.good mode P R).0 p a_loop (closes_finds mode l) }
 
 pub record Ready (o n c vs : List ℕ) : Type 0 where
@@ -147,7 +147,7 @@ ready_joins {c = c} {vs} {v} r =
 module _ {o n : List ℕ} {y : Setting} {mode : ℕ} (g : SettingOf o n y) where
   pub tries_joining :
       {P R : State} {c c' vs W : List ℕ}
-      → Tries mode y.old y.new y.source vs c c' W
+      → Tries mode y.old.now y.new.now y.source vs c c' W
       → length c ≡ 512
       → Shown P R c
       → Midway o n P R
@@ -259,10 +259,10 @@ module _
         at : (j : ℕ) → j < many → get_or (take many left) j 0 ≡ get_or left j 0
         at j h = get_or-take many left j 0 h
 
-    pub going_fits : Fits mode y.old y.new c y.source
+    pub going_fits : Fits mode y.old.now y.new.now c y.source
     going_fits = passes_fits x.setting shown x.waiting.passes
 
-    module _ {c' left' : List ℕ} {many' : ℕ} (p : Passed mode y.old y.new y.source c left many c' left' many') where
+    module _ {c' left' : List ℕ} {many' : ℕ} (p : Passed mode y.old.now y.new.now y.source c left many c' left' many') where
       joined : Joining mode o n (placed c) (take many left) nothing (present c') (take many' left') × ((v : ℕ) → placed c v ≡ placed c' v)
       joined = tries_joining x.setting p.tried x.room.choices shown x.waiting.midway x.ready
 

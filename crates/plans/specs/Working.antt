@@ -217,8 +217,8 @@ pub record Rounded (Q : ℕ → Bool → Type 0) (c ids sizes : List ℕ) (k m :
 
 pub record SettingOf (o n : List ℕ) (z : Setting) : Type 0 where
   pub good : Good o n
-  pub olds : Values o z.old
-  pub news : Values n z.new
+  pub olds : Values o z.old.now
+  pub news : Values n z.new.now
   pub start : z.source ≡ source o
 
 pub record Ahead (o n c left : List ℕ) (many : ℕ) : Type 0 where

@@ -63,7 +63,7 @@ fn enter_all(choice: &mut [u8; 512], ids: &mut [u8], first: usize) -> usize
 // What happens to the rule of the node v.
 fn change_at(setting: &Setting, v: usize) -> Change
     requires { v < 512 }
-    ensures { result ≡ change_of (get_or setting.now.old v 512) (get_or setting.now.new v 512) }
+    ensures { result ≡ change_of (get_or setting.now.old.now v 512) (get_or setting.now.new.now v 512) }
 {
     kind(setting.old[v], setting.new[v])
 }

@@ -2,7 +2,7 @@
 ghost use Rattle.std.specs.Prelude.{◌≡◌, ◌≤◌, length};
 ghost use Rattle.house.specs.Numbers.{entries};
 ghost use Rattle.plans.specs.Replies.{Plans};
-ghost use Rattle.plans.specs.Working.{Fits, Seen, Free, Tried, Lined, Passed, Closing};
+ghost use Rattle.plans.specs.Working.{Fits, Seen, Free, Tried, Lined, Passed, Closing, Merged};
 ghost use Rattle.plans.specs.Working.{Backward, Written};
 ghost use Rattle.rounds.specs.Mode.{mode_no};
 
@@ -13,7 +13,6 @@ use rounds::mode::Mode;
 use rounds::setting::Setting;
 use routes::pair::Pair;
 use routes::rule::Change;
-use std::array;
 
 // The switches that wait, in the order in which they are tried: the first `many` of `nodes`.
 // Kept: an array with a length, since there is no heap; 256 is the most.
@@ -23,22 +22,21 @@ struct Waiting {
     many: usize,
 }
 
-// The switches, from the destination backward along the new route.
-fn switches(setting: &Setting, pair: &Pair) -> Waiting
-    ensures { Backward setting.now.old setting.now.new (entries pair.now.new.now) 0 result.nodes result.many }
-{
-    let mut waiting = Waiting {
-        nodes: [0; 256],
-        many: 0,
-    };
-    for i in (0..pair.new.len() / 2).rev() {
-        let id = entry(pair.new, i);
-        if change_at(setting, usize::from(id)) == Change::Switch {
-            waiting.nodes[waiting.many] = id;
-            waiting.many += 1;
+impl Waiting {
+    // Makes the switches those that wait, from the destination backward along the new route.
+    fn fill(&mut self, setting: &Setting, pair: &Pair)
+        requires { length self.old.nodes ≡ 256 }
+        ensures { Backward setting.now.old.now setting.now.new.now (entries pair.now.new.now) 0 self.new.nodes self.new.many }
+    {
+        self.many = 0;
+        for i in (0..pair.new.len() / 2).rev() {
+            let id = entry(pair.new, i);
+            if change_at(setting, usize::from(id)) == Change::Switch {
+                self.nodes[self.many] = id;
+                self.many += 1;
+            }
         }
     }
-    waiting
 }
 
 // Whether a closed path lies among the nodes that `more` marks and `seen` does not. Where there is no such node there is no
@@ -46,9 +44,21 @@ fn switches(setting: &Setting, pair: &Pair) -> Waiting
 fn closes(graph: &Graph, seen: &[bool; 514], more: &[bool; 514]) -> bool
     ensures { Closing graph.now.old.now graph.now.new.now graph.now.choice.now seen.now more.now result }
 {
-    // Kept: `&` and not `&&`, since what `from_fn` says of a closure with two branches did not close the proof; so below with `|`.
-    let fresh = array::from_fn(|v| more[v] & !seen[v]);
+    let mut fresh = [false; 512];
+    for v in 0..512 {
+        // Kept: `&` and not `&&`, which would be two branches; so below with `|`.
+        fresh[v] = more[v] & !seen[v];
+    }
     fresh.contains(&true) && graph.cyclic(&fresh)
+}
+
+// Marks in `seen` what `more` marks too.
+fn merge(seen: &mut [bool; 514], more: &[bool; 514])
+    ensures { Merged seen.old more.now seen.new }
+{
+    for v in 0..514 {
+        seen[v] = seen[v] | more[v];
+    }
 }
 
 // Whether the node v may join the present round, which passes without it. In strong mode it may if no path leads from its new
@@ -56,9 +66,9 @@ fn closes(graph: &Graph, seen: &[bool; 514], more: &[bool; 514]) -> bool
 // new next value back to it or to a closed path that was not reached before, and what is reached grows.
 fn may_join(setting: &Setting, choice: &[u8; 512], seen: &mut [bool; 514], v: usize) -> bool
     requires free { Free choice.now v }
-    requires fits { Fits (mode_no setting.now.mode) setting.now.old setting.now.new choice.now setting.now.source }
-    requires marks { Seen (mode_no setting.now.mode) setting.now.old setting.now.new choice.now setting.now.source seen.old }
-    ensures { Tried (mode_no setting.now.mode) setting.now.old setting.now.new choice.now setting.now.source v result seen.new }
+    requires fits { Fits (mode_no setting.now.mode) setting.now.old.now setting.now.new.now choice.now setting.now.source }
+    requires marks { Seen (mode_no setting.now.mode) setting.now.old.now setting.now.new.now choice.now setting.now.source seen.old }
+    ensures { Tried (mode_no setting.now.mode) setting.now.old.now setting.now.new.now choice.now setting.now.source v result seen.new }
 {
     let w = usize::from(setting.new[v]);
     let graph = setting.graph(choice);
@@ -72,13 +82,13 @@ fn may_join(setting: &Setting, choice: &[u8; 512], seen: &mut [bool; 514], v: us
     if more[v] || closes(&graph, seen, &more) {
         return false;
     }
-    *seen = array::from_fn(|u| seen[u] | more[u]);
+    merge(seen, &more);
     true
 }
 
 // In relaxed mode, the marks of what is reached from the source; strong mode needs none.
 fn glance(setting: &Setting, choice: &[u8; 512]) -> [bool; 514]
-    ensures { Seen (mode_no setting.now.mode) setting.now.old setting.now.new choice.now setting.now.source result }
+    ensures { Seen (mode_no setting.now.mode) setting.now.old.now setting.now.new.now choice.now setting.now.source result }
 {
     match setting.mode {
         Mode::Strong => [false; 514],
@@ -89,11 +99,11 @@ fn glance(setting: &Setting, choice: &[u8; 512]) -> [bool; 514]
 // One pass over the switches that wait, in their order: each joins the present round if it may, the others go on waiting.
 fn pass(setting: &Setting, choice: &mut [u8; 512], waiting: &mut Waiting)
     requires lined { Lined choice.old waiting.old.nodes 0 waiting.old.many }
-    requires fits { Fits (mode_no setting.now.mode) setting.now.old setting.now.new choice.old setting.now.source }
+    requires fits { Fits (mode_no setting.now.mode) setting.now.old.now setting.now.new.now choice.old setting.now.source }
     ensures { Passed
         (mode_no setting.now.mode)
-        setting.now.old
-        setting.now.new
+        setting.now.old.now
+        setting.now.new.now
         setting.now.source
         choice.old
         waiting.old.nodes
@@ -132,7 +142,9 @@ fn write_plan(pair: &Pair, mode: Mode, ids: &mut [u8], sizes: &mut [u8]) -> Give
         result.rounds
         result.count }
 {
-    let setting = Setting::new(pair, mode);
+    let mut was = [0; 512];
+    let mut will = [0; 512];
+    let setting = Setting::new(pair, mode, &mut was, &mut will);
     let mut draft = Draft {
         choice: [OLD; 512],
         ids,
@@ -140,7 +152,11 @@ fn write_plan(pair: &Pair, mode: Mode, ids: &mut [u8], sizes: &mut [u8]) -> Give
         given: NONE,
     };
     draft.round(|v| change_at(&setting, v) == Change::Install);
-    let mut waiting = switches(&setting, pair);
+    let mut waiting = Waiting {
+        nodes: [0; 256],
+        many: 0,
+    };
+    waiting.fill(&setting, pair);
     while waiting.many > 0 {
         pass(&setting, &mut draft.choice, &mut waiting);
         draft.write_round();

@@ -2,13 +2,16 @@
 ghost use Rattle.std.specs.Prelude.{◌≡◌, ◌≤◌, length};
 ghost use Rattle.house.specs.Numbers.{entries};
 ghost use Rattle.house.specs.Finds.{Finds};
-ghost use Rattle.plans.specs.Replies.{Quicks};
+ghost use Rattle.house.specs.Refusals.{Clear};
+ghost use Rattle.plans.specs.Replies.{PlanFault, Quicks};
 ghost use Rattle.plans.specs.Working.{Added};
 ghost use Rattle.plans.specs.QuickParts.{Places, Forward, Back, four_rounds};
+ghost use Rattle.rounds.specs.Mode.{mode_no};
 
 use crate::{Draft, Given, NONE, change_at, fit};
 use graph::OLD;
 use house::{Refusal, entry};
+use rounds::mode::Mode;
 use rounds::setting::Setting;
 use routes::pair::Pair;
 use routes::rule::Change;
@@ -48,17 +51,15 @@ fn forward(pair: &Pair) -> [bool; 512]
 
 // The lowest switch that is marked in neither of two lists of marks.
 fn lowest_back(setting: &Setting, first: &[bool; 512], second: &[bool; 512]) -> Option<usize>
-    ensures { Finds (Back setting.now.old setting.now.new first.now second.now) 512 result }
+    ensures { Finds (Back setting.now.old.now setting.now.new.now first.now second.now) 512 result }
 {
     (0..512).find(|&v| change_at(setting, v) == Change::Switch && !first[v] && !second[v])
 }
 
 // Writes all rounds of the quick plan: the installs, the marked switches, the other switches, the removes.
-// Kept: the clause `tables`, since these lengths are known only where the fields are taken apart, and then the closures didn't prove.
 fn write_quick(setting: &Setting, marks: &[bool; 512], ids: &mut [u8], sizes: &mut [u8]) -> Given
-    requires tables { (length setting.now.old ≡ 512) × (length setting.now.new ≡ 512) }
-    requires room { (1024 ≤ length ids.old) × (1024 ≤ length sizes.old) }
-    ensures { Added (four_rounds setting.now.old setting.now.new marks.now) ids.old sizes.old 0 0 ids.new sizes.new result.rounds result.count }
+    requires { (1024 ≤ length ids.old) × (1024 ≤ length sizes.old) }
+    ensures { Added (four_rounds setting.now.old.now setting.now.new.now marks.now) ids.old sizes.old 0 0 ids.new sizes.new result.rounds result.count }
 {
     let mut draft = Draft {
         choice: [OLD; 512],
@@ -71,6 +72,25 @@ fn write_quick(setting: &Setting, marks: &[bool; 512], ids: &mut [u8], sizes: &m
     draft.round(|v| change_at(setting, v) == Change::Switch && !marks[v]);
     draft.round(|v| change_at(setting, v) == Change::Remove);
     draft.given
+}
+
+// The quick plan of a change that `fit` has let through: it is written, or refused with 19.
+fn quick_fit(pair: &Pair, mode: Mode, ids: &mut [u8], sizes: &mut [u8]) -> Result<Given, Refusal>
+    requires { Clear (PlanFault pair.now.old.now pair.now.new.now (mode_no mode) ids.old sizes.old) }
+    ensures { Quicks pair.now.old.now pair.now.new.now (mode_no mode) ids.old sizes.old result ids.new sizes.new }
+{
+    let mut was = [0; 512];
+    let mut will = [0; 512];
+    let setting = Setting::new(pair, mode, &mut was, &mut will);
+    let marks = forward(pair);
+    let others = forward(&Pair {
+        old: pair.new,
+        new: pair.old,
+    });
+    if let Some(back) = lowest_back(&setting, &marks, &others) {
+        return Err(Refusal::BothBackward(back));
+    }
+    Ok(write_quick(&setting, &marks, ids, sizes))
 }
 
 // Plans the change from the old route to the new one as `plan` does, with every switch that has a positive old-order jump in
@@ -86,11 +106,5 @@ pub fn quick(
 {
     let mode = fit(old, new, mode, ids, sizes)?;
     let pair = Pair { old, new };
-    let setting = Setting::new(&pair, mode);
-    let marks = forward(&pair);
-    let others = forward(&Pair { old: new, new: old });
-    if let Some(back) = lowest_back(&setting, &marks, &others) {
-        return Err(Refusal::BothBackward(back));
-    }
-    Ok(write_quick(&setting, &marks, ids, sizes))
+    quick_fit(&pair, mode, ids, sizes)
 }

@@ -9,8 +9,8 @@
 --   short_first, short_refused == 1 is given where the lent bytes are too short, and they stay as they were
 --   change_first     == what judging the change refuses is refused
 --   change_clear_set == nothing of 1 and 4 to 14 applies where nothing applies to the change and the lent bytes are long enough
---   reply_no         == the refusal of the first bad round is the reply
-use Rattle.std.specs.Prelude.{Ok, Err}
+--   reply_no, bad_refused == the refusal of the first bad round is the reply
+use Rattle.std.specs.Prelude.{Ok, Err, Some}
 use Prim.Native.Nat.{ℕ, ◌+◌, ◌*◌, ◌<◌, ◌≤◌}
 use native.Mathlib.Nat.{mul-suc}
 use native.Mathlib.Numerals.{add-one}
@@ -29,8 +29,10 @@ use Rattle.rounds.specs.Mode.{ModeOf, over}
 use Rattle.rounds.specs.States.{Fault, FirstBad, Named}
 use Rattle.rounds.specs.Replies.{ChangeFault, JudgesChange, sound, faulty, CheckFault, short_set}
 use Rattle.rounds.specs.Replies.{change, written, Checks, refused, begins_faulty, shows}
-use Rattle.rounds.specs.Working.{Refuses, begins, shown}
+use Rattle.rounds.specs.Working.{the_fault, Searched, Refuses, begins, shown}
+use Rattle.rounds.specs.declared.check.BadRound.{BadRound}
 use Rattle.house.proofs.RefusalLaws.{unfit_first}
+use Rattle.rounds.proofs.NamingLaws.{searched_at}
 
 pub encode_more : (w : ℕ) (xs : List ℕ) (x : ℕ) → encode w (xs ++ (x ∷ [])) ≡ encode w xs ++ bytes w x
 unfolding encode
@@ -145,3 +147,13 @@ module _ {old new : List ℕ} {mode : ℕ} {ids sizes set : List ℕ} where
       → Checks old new mode ids sizes set (Err r) after
   reply_no k b m (begins z) = begins_faulty k b m z refl
   reply_no k b m (shown z r e) = shows k b m z r e
+
+  pub bad_refused :
+      {b : BadRound} {cl ws after : List ℕ} {r : Refusal}
+      → 64 ≤ length set
+      → Clear (ChangeFault old new mode ids sizes)
+      → Searched mode (entries old) (entries new) (entries ids) (entries sizes) (Some b) cl
+      → Named mode (entries old) (entries new) (entries ids) (entries sizes) b.round (the_fault b.fault) ws
+      → Refuses (the_fault b.fault) b.round ws set r after
+      → Checks old new mode ids sizes set (Err r) after
+  bad_refused h k b m x = reply_no (change_clear_set h k) (searched_at b).first m x

@@ -54,8 +54,8 @@ fn decide(setting: &Setting, fault: Fault, id: usize, choice: &mut [u8; 512], su
     ensures { Decided
         (the_fault fault)
         (mode_no setting.now.mode)
-        setting.now.old
-        setting.now.new
+        setting.now.old.now
+        setting.now.new.now
         setting.now.source
         choice.old
         subset.old.words
@@ -102,11 +102,11 @@ fn refuse(bad: BadRound, subset: &IdSet, set: &mut [u8]) -> Refusal
 #[derive(Clone, Copy)]
 struct Sound<'a> {
     pair: Pair<'a>,
-    setting: &'a Setting,
+    setting: &'a Setting<'a>,
     ids: &'a [u8],
     sizes: &'a [u8],
     ghost clear: { Clear (ChangeFault pair.old.now pair.new.now (mode_no setting.now.mode) ids.now sizes.now) },
-    ghost stands: { Stands (entries pair.old.now) (entries pair.new.now) setting.now.old setting.now.new setting.now.source },
+    ghost stands: { Stands (entries pair.old.now) (entries pair.new.now) setting.now.old.now setting.now.new.now setting.now.source },
 }
 
 impl Sound<'_> {
@@ -177,11 +177,12 @@ impl Sound<'_> {
     {
         Accepted {
             rounds: self.sizes.len() / 2,
-            dues: due_count(&self.setting.old, &self.setting.new),
+            dues: due_count(self.setting.old, self.setting.new),
         }
     }
 
     // The check of the rounds: the first bad one is refused with its named subset, or there is none.
+    #[tactic(auto, using(crate::proofs::ReplyLaws::bad_refused))]
     fn check(&self, set: &mut [u8]) -> Result<Accepted, Refusal>
         requires { 64 ≤ length set.old }
         ensures { Checks
@@ -203,6 +204,34 @@ impl Sound<'_> {
     }
 }
 
+// The check of a change that the judge has let through: its rounds are checked on the tables of its routes.
+fn check_judged(
+    old: &[u8],
+    new: &[u8],
+    mode: u16,
+    ids: &[u8],
+    sizes: &[u8],
+    set: &mut [u8],
+) -> Result<Accepted, Refusal>
+    requires clear { Clear (ChangeFault old.now new.now mode ids.now sizes.now) }
+    requires set { 64 ≤ length set.old }
+    ensures { Checks old.now new.now mode ids.now sizes.now set.old result set.new }
+{
+    // the judge has refused each number that is no mode
+    let mode = Mode::try_from(mode)?;
+    let pair = Pair { old, new };
+    let mut was = [0; 512];
+    let mut will = [0; 512];
+    let setting = Setting::new(&pair, mode, &mut was, &mut will);
+    Sound {
+        pair,
+        setting: &setting,
+        ids,
+        sizes,
+    }
+    .check(set)
+}
+
 // Checks anybody's schedule of a change, given as bytes, in a mode: yes, with the number of rounds and of due nodes, exactly
 // when no state of any round drops or loops; else the refusal that is given. 16 and 17 write the named subset as eight words to
 // the front of `set`; nothing else is changed.
@@ -221,14 +250,5 @@ pub fn check(
         return Err(Refusal::Unfit);
     }
     schedule::judge(old, new, mode, ids, sizes)?;
-    // the judge has refused each number that is no mode
-    let pair = Pair { old, new };
-    let setting = Setting::new(&pair, Mode::try_from(mode)?);
-    Sound {
-        pair,
-        setting: &setting,
-        ids,
-        sizes,
-    }
-    .check(set)
+    check_judged(old, new, mode, ids, sizes, set)
 }

@@ -25,11 +25,11 @@ fn alive(seen: &[bool; 514], mode: Mode) -> [bool; 512]
     }
 }
 
-impl Setting {
+impl Setting<'_> {
     // Whether some state that the choice allows shows this fault, in this mode. `seen` is what a search from the source reached.
     fn leads(&self, choice: &[u8; 512], seen: &[bool; 514], fault: Fault) -> bool
-        requires { Reached self.now.old self.now.new choice.now self.now.source seen.now }
-        ensures { Says (Leads (the_fault fault) (mode_no self.now.mode) self.now.old self.now.new choice.now self.now.source) result }
+        requires { Reached self.now.old.now self.now.new.now choice.now self.now.source seen.now }
+        ensures { Says (Leads (the_fault fault) (mode_no self.now.mode) self.now.old.now self.now.new.now choice.now self.now.source) result }
     {
         match fault {
             Fault::Drop => seen[512],
@@ -39,7 +39,7 @@ impl Setting {
 
     // What the states that the choice allows show, in this mode. One search from the source serves the drop and the relaxed loop.
     pub(crate) fn first_shown(&self, choice: &[u8; 512]) -> Option<Fault>
-        ensures { Tells (mode_no self.now.mode) self.now.old self.now.new choice.now self.now.source result }
+        ensures { Tells (mode_no self.now.mode) self.now.old.now self.now.new.now choice.now self.now.source result }
     {
         let seen = self.graph(choice).reach(self.source);
         if self.leads(choice, &seen, Fault::Drop) {
@@ -53,7 +53,7 @@ impl Setting {
 
     // Whether some state that the choice allows shows this fault, in this mode.
     pub(crate) fn shows(&self, choice: &[u8; 512], fault: Fault) -> bool
-        ensures { Says (Leads (the_fault fault) (mode_no self.now.mode) self.now.old self.now.new choice.now self.now.source) result }
+        ensures { Says (Leads (the_fault fault) (mode_no self.now.mode) self.now.old.now self.now.new.now choice.now self.now.source) result }
     {
         let seen = self.graph(choice).reach(self.source);
         self.leads(choice, &seen, fault)

@@ -1,18 +1,22 @@
--- `plans::plan::closes` meets its contract: where no node is new no closed path lies among the new ones.
+use Prim.Native.Nat.{ℕ}
+use native.Mathlib.Omega.{arith}
+use mathlib.Core.Path.{◌≡◌, refl}
 use Rattle.std.proofs.Common.{rules}
-use borrow.Author.Tests.{tests}
-use Rattle.plans.specs.Working.{Fresh}
-use Rattle.plans.proofs.MarkLaws.{fresh_made, closing_none}
+use Rattle.plans.proofs.MarkLaws.{marking_begins, marking_more, fresh_made, closing_none}
 use Rattle.plans.proofs.plan.closes.Goals as goal
-use Rattle.plans.proofs.plan.closes.Goals.{After-from_fn-fresh}
 
-fresh : (c : After-from_fn-fresh) → Fresh c.args.seen.now c.args.more.now c.from_fn-fresh.result
-fresh c = fresh_made c.from_fn-fresh.ensures.items (λ i y q h. (search rules, search (rules, tests)))
+pub loop-v-init : goal.loop-v-init
+loop-v-init c = marking_begins _ _ refl
+
+pub loop-v-preserved : goal.loop-v-preserved
+loop-v-preserved c = marking_more c.loop-v.invariant c.loop-v-test.true refl
 
 pub returns-then-contains : goal.returns-then-contains
-returns-then-contains c = record { among = _; fresh = fresh (goal.at.returns-then-contains c).After-from_fn-fresh; closed = c.cyclic.ensures }
+returns-then-contains c =
+    let e : ◌≡◌ {A = ℕ} c.loop-v.v 512 = omega arith in
+    record { among = _; fresh = fresh_made (rw e at c.loop-v.invariant); closed = c.cyclic.ensures }
 
 pub returns-else-contains : goal.returns-else-contains
 returns-else-contains c =
-    rw c.if-contains.false
-    (closing_none _ _ _ (fresh (goal.at.returns-else-contains c).After-from_fn-fresh) (λ v h e. search rules))
+    let e : ◌≡◌ {A = ℕ} c.loop-v.v 512 = omega arith in
+    rw c.if-contains.false (closing_none _ _ _ (fresh_made (rw e at c.loop-v.invariant)) (λ v h e. search rules))

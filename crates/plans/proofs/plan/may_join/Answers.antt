@@ -3,25 +3,23 @@ use Prim.Native.Nat.{ℕ}
 use mathlib.Core.Path.{◌≡◌, ◌∙◌}
 use mathlib.Core.Bool.{true, false}
 use mathlib.Core.List.{List}
-use borrow.Author.Tests.{tests}
-use Rattle.std.proofs.Common.{rules}
+use Rattle.std.proofs.Common.{rules, arith}
 use Rattle.routes.proofs.RuleLaws.{get_d_default}
 use Rattle.graph.specs.Graph.{table}
 use Rattle.graph.specs.Search.{Reached, Leads}
 use Rattle.plans.specs.Working.{Closing}
 use Rattle.plans.proofs.JoinLaws.{tried_strong, tried_unseen, tried_back, tried_closes, tried_seen}
-use Rattle.plans.proofs.MarkLaws.{merged_made}
 use Rattle.plans.proofs.plan.may_join.Goals as goal
 use Rattle.plans.proofs.plan.may_join.Goals.{After-graph-graph, then-more-v-via-then-more-v, then-more-v-via-else-more-v+then-closes}
 
-next : (c : After-graph-graph) → c.from-w.result ≡ table c.args.setting.now.new c.args.v
-next c = c.from-w.ensures ∙ get_d_default c.args.setting.now.new c.args.v 0 512 (search rules)
+next : (c : After-graph-graph) → c.from-w.result ≡ table c.args.setting.now.new.now c.args.v
+next c = c.from-w.ensures ∙ get_d_default c.args.setting.now.new.now c.args.v 0 512 (omega arith)
 
 -- what is said of the graph is said of the tables and the choice list
 at_tables :
     (c : After-graph-graph) (T : List ℕ → List ℕ → List ℕ → Type 0)
     → T c.graph-graph.result.old.now c.graph-graph.result.new.now c.graph-graph.result.choice.now
-    → T c.args.setting.now.old c.args.setting.now.new c.args.choice.now
+    → T c.args.setting.now.old.now c.args.setting.now.new.now c.args.choice.now
 at_tables c T t = let g = c.graph-graph.ensures in rw (g.old, g.new, g.choice) at t
 
 pub returns-then-eq : goal.returns-then-eq
@@ -54,4 +52,4 @@ returns c =
     (at_tables g (λ o n q. Reached o n q c.from-w.result c.reach-more.result) c.reach-more.ensures)
     c.if-more-v.false
     (at_tables g (λ o n q. Closing o n q c.args.seen.now c.reach-more.result false) c.if-closes.ensures)
-    (merged_made c.from_fn.ensures.items (λ i y q h. (search rules, search (rules, tests))))
+    c.merge.ensures

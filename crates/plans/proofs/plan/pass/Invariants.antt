@@ -8,4 +8,4 @@ abbrev pub invariant-loop-i : goal.invariant-loop-i
 invariant-loop-i l =
     let z = l.setting in
     let w = l.initial.waiting in
-    Pass (mode_no z.mode) z.old z.new z.source l.initial.choice w.nodes w.many l.seen l.choice l.waiting.nodes l.i l.kept
+    Pass (mode_no z.mode) z.old.now z.new.now z.source l.initial.choice w.nodes w.many l.seen l.choice l.waiting.nodes l.i l.kept

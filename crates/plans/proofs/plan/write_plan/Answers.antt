@@ -13,27 +13,27 @@ use Rattle.plans.proofs.PlanLaws.{Stood, begun_room, begun, begun_ahead, ends_ro
 use Rattle.plans.proofs.plan.write_plan.Goals as goal
 use Rattle.plans.proofs.plan.write_plan.Goals.{After-round}
 
-installs : (c : After-round) → Sought (coded c.new-setting.result.old c.new-setting.result.new 1) (replicate 512 0) c.round.ensures.wrote.marked 512
+installs : (c : After-round) → Sought (coded c.new-setting.result.old.now c.new-setting.result.new.now 1) (replicate 512 0) c.round.ensures.wrote.marked 512
 installs c =
     let s = c.new-setting.result in
-    sought_coded s.old s.new Install (λ v t h q. (λ e. search rules, λ e n. search rules))
+    sought_coded s.old.now s.new.now Install (λ v t h q. (λ e. search rules, λ e n. search rules))
     c.round.ensures.wrote.sought
 
 pub round-requires-clause-room : goal.round-requires-clause-room
 round-requires-clause-room c =
     let s = c.new-setting in
-    λ x w. begun_room s.result.old s.result.new s.ensures.old.size s.ensures.new.size c.requires.0 c.requires.1
-    (sought_coded s.result.old s.result.new Install (λ v t h q. (λ e. search rules, λ e n. search rules)) w)
+    λ x w. begun_room s.result.old.now s.result.new.now s.ensures.old.size s.ensures.new.size c.requires.0 c.requires.1
+    (sought_coded s.result.old.now s.result.new.now Install (λ v t h q. (λ e. search rules, λ e n. search rules)) w)
 
 -- the installs are written
 first :
     (c : After-round)
-    → let f : State = coded c.new-setting.result.old c.new-setting.result.new 1 in
+    → let f : State = coded c.new-setting.result.old.now c.new-setting.result.new.now 1 in
     let d = c.round.new.self in
     Stood (some_round f) f c.args.ids.now c.args.sizes.now d.choice d.ids.now d.sizes.now d.given.rounds d.given.count
 first c =
     let s = c.new-setting in
-    begun s.result.old s.result.new s.ensures.old.size s.ensures.new.size c.requires.0 c.requires.1 (installs c)
+    begun s.result.old.now s.result.new.now s.ensures.old.size s.ensures.new.size c.requires.0 c.requires.1 (installs c)
     c.round.ensures.wrote.wrote
 
 pub loop-waiting-init : goal.loop-waiting-init
@@ -44,7 +44,7 @@ loop-waiting-init c =
       refl,
       refl,
       going_begins (record { good = g; olds = s.old; news = s.new; start = s.source })
-          (begun_ahead g s.old s.new d c.switches-waiting.ensures)
+          (begun_ahead g s.old s.new d c.fill.ensures)
           d.room,
     )
 
@@ -75,7 +75,7 @@ round-requires-2-clause-room c =
     let at = goal.at.round-requires-2-clause-room c in
     λ x w. ends_room c.args.pair.now.good s.ensures.old s.ensures.new (first at.After-round)
     (going_ends c.loop-waiting.invariant.2 (omega arith))
-    (sought_coded s.result.old s.result.new Remove (λ v t h q. (λ e. search rules, λ e n. search rules)) w)
+    (sought_coded s.result.old.now s.result.new.now Remove (λ v t h q. (λ e. search rules, λ e n. search rules)) w)
 
 pub returns : goal.returns
 returns c =
@@ -85,7 +85,7 @@ returns c =
     let x =
     written c.args.pair.now.good s.ensures.old s.ensures.new (first at.After-round)
     (going_ends c.loop-waiting.invariant.2 (omega arith))
-    (sought_coded s.result.old s.result.new Remove (λ v t h q. (λ e. search rules, λ e n. search rules)) w.sought)
+    (sought_coded s.result.old.now s.result.new.now Remove (λ v t h q. (λ e. search rules, λ e n. search rules)) w.sought)
     w.wrote in
     let e = ap mode_no s.ensures.mode in
     search rules

@@ -12,78 +12,78 @@ use Rattle.plans.proofs.quick.write_quick.Goals.{After-round, After-round-2, Aft
 one :
     (c : After-round)
     → let z = c.args.setting.now in let d = c.round.new.self in
-    One z.old z.new c.args.ids.now c.args.sizes.now d.choice d.ids.now d.sizes.now d.given
+    One z.old.now z.new.now c.args.ids.now c.args.sizes.now d.choice d.ids.now d.sizes.now d.given
 one c =
     let z = c.args.setting.now in
-    let t = c.requires.tables in
+    let t = c.args.setting.now.sizes in
     let w = c.round.ensures.wrote in
-    begun z.old z.new t.0 t.1 c.requires.room.0 c.requires.room.1
-    (sought_coded z.old z.new Install (λ v t h q. (λ e. search rules, λ e n. search rules)) w.sought)
+    begun z.old.now z.new.now t.0 t.1 c.requires.0 c.requires.1
+    (sought_coded z.old.now z.new.now Install (λ v t h q. (λ e. search rules, λ e n. search rules)) w.sought)
     w.wrote
 
 two :
     (c : After-round-2)
     → let z = c.args.setting.now in let d = c.round-2.new.self in
-    Two z.old z.new c.args.marks.now c.args.ids.now c.args.sizes.now d.choice d.ids.now d.sizes.now d.given
+    Two z.old.now z.new.now c.args.marks.now c.args.ids.now c.args.sizes.now d.choice d.ids.now d.sizes.now d.given
 two c =
     let z = c.args.setting.now in
     let m = c.args.marks.now in
-    let t = c.requires.tables in
+    let t = c.args.setting.now.sizes in
     let w = c.round-2.ensures.wrote in
-    forward_more z.old z.new m t.0 t.1 (one (goal.at.After-round-2 c).After-round)
-    (sought_by (λ v t h q. signed_told z.old z.new v m true t (λ e. (search rules, search rules)) (λ e n o. search rules)) w.sought)
+    forward_more z.old.now z.new.now m t.0 t.1 (one (goal.at.After-round-2 c).After-round)
+    (sought_by (λ v t h q. signed_told z.old.now z.new.now v m true t (λ e. (search rules, search rules)) (λ e n o. search rules)) w.sought)
     w.wrote
 
 three :
     (c : After-round-3)
     → let z = c.args.setting.now in let d = c.round-3.new.self in
-    Three z.old z.new c.args.marks.now c.args.ids.now c.args.sizes.now d.choice d.ids.now d.sizes.now d.given
+    Three z.old.now z.new.now c.args.marks.now c.args.ids.now c.args.sizes.now d.choice d.ids.now d.sizes.now d.given
 three c =
     let z = c.args.setting.now in
     let m = c.args.marks.now in
-    let t = c.requires.tables in
+    let t = c.args.setting.now.sizes in
     let w = c.round-3.ensures.wrote in
-    rest_more z.old z.new m t.0 t.1 (two (goal.at.After-round-3 c).After-round-2)
-    (sought_by (λ v t h q. signed_told z.old z.new v m false t (λ e. (search rules, search rules)) (λ e n o. search rules)) w.sought)
+    rest_more z.old.now z.new.now m t.0 t.1 (two (goal.at.After-round-3 c).After-round-2)
+    (sought_by (λ v t h q. signed_told z.old.now z.new.now v m false t (λ e. (search rules, search rules)) (λ e n o. search rules)) w.sought)
     w.wrote
 
 pub round-requires-clause-room : goal.round-requires-clause-room
 round-requires-clause-room c =
     let z = c.args.setting.now in
-    let t = c.requires.tables in
-    λ x w. begun_room z.old z.new t.0 t.1 c.requires.room.0 c.requires.room.1
-    (sought_coded z.old z.new Install (λ v t h q. (λ e. search rules, λ e n. search rules)) w)
+    let t = c.args.setting.now.sizes in
+    λ x w. begun_room z.old.now z.new.now t.0 t.1 c.requires.0 c.requires.1
+    (sought_coded z.old.now z.new.now Install (λ v t h q. (λ e. search rules, λ e n. search rules)) w)
 
 pub round-requires-2-clause-room : goal.round-requires-2-clause-room
 round-requires-2-clause-room c =
     let z = c.args.setting.now in
     let m = c.args.marks.now in
-    let t = c.requires.tables in
-    λ x w. forward_room z.old z.new m t.0 t.1 (one (goal.at.round-requires-2-clause-room c).After-round)
-    (sought_by (λ v t h q. signed_told z.old z.new v m true t (λ e. (search rules, search rules)) (λ e n o. search rules)) w)
+    let t = c.args.setting.now.sizes in
+    λ x w. forward_room z.old.now z.new.now m t.0 t.1 (one (goal.at.round-requires-2-clause-room c).After-round)
+    (sought_by (λ v t h q. signed_told z.old.now z.new.now v m true t (λ e. (search rules, search rules)) (λ e n o. search rules)) w)
 
 pub round-requires-3-clause-room : goal.round-requires-3-clause-room
 round-requires-3-clause-room c =
     let z = c.args.setting.now in
     let m = c.args.marks.now in
-    let t = c.requires.tables in
-    λ x w. rest_room z.old z.new m t.0 t.1 (two (goal.at.round-requires-3-clause-room c).After-round-2)
-    (sought_by (λ v t h q. signed_told z.old z.new v m false t (λ e. (search rules, search rules)) (λ e n o. search rules)) w)
+    let t = c.args.setting.now.sizes in
+    λ x w. rest_room z.old.now z.new.now m t.0 t.1 (two (goal.at.round-requires-3-clause-room c).After-round-2)
+    (sought_by (λ v t h q. signed_told z.old.now z.new.now v m false t (λ e. (search rules, search rules)) (λ e n o. search rules)) w)
 
 pub round-requires-4-clause-room : goal.round-requires-4-clause-room
 round-requires-4-clause-room c =
     let z = c.args.setting.now in
-    let t = c.requires.tables in
-    λ x w. last_room z.old z.new c.args.marks.now t.0 t.1 (three (goal.at.round-requires-4-clause-room c).After-round-3)
-    (sought_coded z.old z.new Remove (λ v t h q. (λ e. search rules, λ e n. search rules)) w)
+    let t = c.args.setting.now.sizes in
+    λ x w. last_room z.old.now z.new.now c.args.marks.now t.0 t.1 (three (goal.at.round-requires-4-clause-room c).After-round-3)
+    (sought_coded z.old.now z.new.now Remove (λ v t h q. (λ e. search rules, λ e n. search rules)) w)
 
 pub returns : goal.returns
 returns c =
     let z = c.args.setting.now in
-    let t = c.requires.tables in
+    let t = c.args.setting.now.sizes in
     let w = c.round-4.ensures.wrote in
     let x =
-    all_four z.old z.new c.args.marks.now t.0 t.1 (three (goal.at.returns c).After-round-3)
-    (sought_coded z.old z.new Remove (λ v t h q. (λ e. search rules, λ e n. search rules)) w.sought)
+    all_four z.old.now z.new.now c.args.marks.now t.0 t.1 (three (goal.at.returns c).After-round-3)
+    (sought_coded z.old.now z.new.now Remove (λ v t h q. (λ e. search rules, λ e n. search rules)) w.sought)
     w.wrote in
     search rules

@@ -5,8 +5,7 @@ use Rattle.house.specs.Numbers.{entries}
 use Rattle.rounds.specs.Replies.{passes}
 use Rattle.rounds.proofs.OldRoute.{rounds_pass}
 use Rattle.rounds.proofs.RoundLaws.{coded_start, searched_none}
-use Rattle.rounds.proofs.NamingLaws.{searched_at}
-use Rattle.rounds.proofs.ReplyLaws.{change_clear_set, reply_no}
+use Rattle.rounds.proofs.ReplyLaws.{change_clear_set}
 use Rattle.rounds.proofs.check.Sound.check.Goals as goal
 
 pub first_bad-requires : goal.first_bad-requires
@@ -19,8 +18,3 @@ returns-in_default c =
     c.passed.ensures.rounds
     c.passed.ensures.dues
     refl
-
-pub returns : goal.returns
-returns c =
-    let bad_round = searched_at c.in-Some.ensures in
-    reply_no (change_clear_set c.requires c.args.self.now.clear) bad_round.first c.named-subset.ensures c.refuse.ensures

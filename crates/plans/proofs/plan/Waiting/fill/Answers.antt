@@ -1,13 +1,13 @@
 use Prim.Native.Nat.{◌-◌}
 use native.Mathlib.Omega.{arith}
-use mathlib.Core.Path.{◌≡◌, refl, ◌∙◌}
+use mathlib.Core.Path.{◌≡◌, ◌∙◌}
 use Rattle.std.proofs.Common.{rules, ℕ}
 use Rattle.house.proofs.NumberLaws.{length_entries}
 use Rattle.plans.proofs.SeekLaws.{backward_begins, backward_skips, backward_takes}
-use Rattle.plans.proofs.plan.switches.Goals as goal
+use Rattle.plans.proofs.plan.Waiting.fill.Goals as goal
 
 pub loop-i-init : goal.loop-i-init
-loop-i-init c = backward_begins _ _ _ (omega (arith, length_entries c.args.pair.now.new.now)) refl
+loop-i-init c = backward_begins _ _ _ (omega (arith, length_entries c.args.pair.now.new.now)) c.requires
 
 pub loop-i-preserved-then-eq : goal.loop-i-preserved-then-eq
 loop-i-preserved-then-eq c =
