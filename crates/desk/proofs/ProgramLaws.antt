@@ -1,5 +1,6 @@
 -- Laws on what the two programs answer, from what their parts answer.
 --
+--   puts_within      == what is put lies within the lent bytes
 --   line_told        == the three numbers of a refusal are what the NO line tells
 --   none_named       == a set of no ids names none
 --   read_within      == what is read lies within the four arrays
@@ -39,10 +40,13 @@ use Rattle.plans.proofs.CheckAccepts.{ids_entries, sizes_entries, front_overlaid
 use Rattle.planfile.specs.Replies.{Reads, content, WriteFault, short_file, change, Writes, refused as not_written, written}
 use Rattle.desk.specs.Text.{NO}
 use Rattle.desk.specs.Replies.{zeros, FileFault, told, subset, CheckerSays, wrong_file, accepted as says-ok}
-use Rattle.desk.specs.Replies.{refused as says-no, PlannerPuts}
+use Rattle.desk.specs.Replies.{refused as says-no, PlannerPuts, Puts}
 use Rattle.desk.specs.Replies.PlannerGives.{wrong_file as wrong-file, refused as not-given, planned as a-file}
 use Rattle.desk.specs.Parts.{PutLine, IsRead, Checked, Refuses, Planned}
 use Rattle.desk.proofs.IdLaws.{no_ids}
+
+pub puts_within : {t out out' : List ℕ} {r : ℕ} → Puts t out r out' → r ≤ length out'
+puts_within {t} {out} {r = r} p = omega (arith, p.size, ap length p.after, length-append t (drop r out))
 
 -- ---- the NO line
 

@@ -15,13 +15,13 @@ use house::{IdSet, Refusal, Told, store};
 use planfile::read::Content;
 use rounds::check::Accepted;
 
-// What was read of a plan file: four arrays, with the content at their fronts.
+// What was read of a plan file: four lent arrays, with the content at their fronts. They are filled in place, and none is moved.
 #[derive(Drop)]
-struct Held {
-    old: [u8; 512],
-    new: [u8; 512],
-    ids: [u8; 4096],
-    sizes: [u8; 2048],
+struct Held<'a> {
+    old: &'a [u8; 512],
+    new: &'a [u8; 512],
+    ids: &'a [u8; 4096],
+    sizes: &'a [u8; 2048],
     content: Content,
     ghost old_within: { 2 * content.olds ≤ 512 },
     ghost new_within: { 2 * content.news ≤ 512 },
@@ -29,19 +29,25 @@ struct Held {
     ghost sizes_within: { 2 * content.rounds ≤ 2048 },
 }
 
-impl Held {
-    // Reads a plan file.
-    fn read(file: &[u8]) -> Result<Held, Refusal>
-        ensures held { IfOk result (λ h. IsRead file.now (take (2 * h.content.olds) h.old)
-            (take (2 * h.content.news) h.new) h.content.mode (take (2 * h.content.ids) h.ids)
-            (take (2 * h.content.rounds) h.sizes)) }
+impl<'a> Held<'a> {
+    // Reads a plan file into four lent arrays, which hold zeros.
+    fn read(
+        file: &[u8],
+        old: &'a mut [u8; 512],
+        new: &'a mut [u8; 512],
+        ids: &'a mut [u8; 4096],
+        sizes: &'a mut [u8; 2048],
+    ) -> Result<Held<'a>, Refusal>
+        requires old { old.old ≡ zeros 512 }
+        requires new { new.old ≡ zeros 512 }
+        requires ids { ids.old ≡ zeros 4096 }
+        requires sizes { sizes.old ≡ zeros 2048 }
+        ensures held { IfOk result (λ h. IsRead file.now (take (2 * h.content.olds) h.old.now)
+            (take (2 * h.content.news) h.new.now) h.content.mode (take (2 * h.content.ids) h.ids.now)
+            (take (2 * h.content.rounds) h.sizes.now)) }
         ensures refused { IfErr result (First (FileFault file.now)) }
     {
-        let mut old = [0; 512];
-        let mut new = [0; 512];
-        let mut ids = [0; 4096];
-        let mut sizes = [0; 2048];
-        let content = planfile::read::read(file, &mut old, &mut new, &mut ids, &mut sizes)?;
+        let content = planfile::read::read(file, old, new, ids, sizes)?;
         Ok(Held {
             old,
             new,
@@ -53,30 +59,34 @@ impl Held {
 
     // The old route.
     fn old_route(&self) -> &[u8]
-        ensures { result.now ≡ take (2 * self.now.content.olds) self.now.old }
+        ensures { result.now ≡ take (2 * self.now.content.olds) self.now.old.now }
     {
-        &self.old[..2 * self.content.olds]
+        let old = self.old;
+        &old[..2 * self.content.olds]
     }
 
     // The new route.
     fn new_route(&self) -> &[u8]
-        ensures { result.now ≡ take (2 * self.now.content.news) self.now.new }
+        ensures { result.now ≡ take (2 * self.now.content.news) self.now.new.now }
     {
-        &self.new[..2 * self.content.news]
+        let new = self.new;
+        &new[..2 * self.content.news]
     }
 
     // The ids of the rounds, all rounds joined.
     fn ids(&self) -> &[u8]
-        ensures { result.now ≡ take (2 * self.now.content.ids) self.now.ids }
+        ensures { result.now ≡ take (2 * self.now.content.ids) self.now.ids.now }
     {
-        &self.ids[..2 * self.content.ids]
+        let ids = self.ids;
+        &ids[..2 * self.content.ids]
     }
 
     // The sizes of the rounds.
     fn sizes(&self) -> &[u8]
-        ensures { result.now ≡ take (2 * self.now.content.rounds) self.now.sizes }
+        ensures { result.now ≡ take (2 * self.now.content.rounds) self.now.sizes.now }
     {
-        &self.sizes[..2 * self.content.rounds]
+        let sizes = self.sizes;
+        &sizes[..2 * self.content.rounds]
     }
 }
 
@@ -160,7 +170,11 @@ fn checked(file: &[u8], set: &mut [u8; 64]) -> Result<Accepted, Refusal>
     requires { set.old ≡ zeros 64 }
     ensures { Checked file.now result set.new }
 {
-    let held = Held::read(file)?;
+    let mut old = [0; 512];
+    let mut new = [0; 512];
+    let mut ids = [0; 4096];
+    let mut sizes = [0; 2048];
+    let held = Held::read(file, &mut old, &mut new, &mut ids, &mut sizes)?;
     rounds::check::check(
         held.old_route(),
         held.new_route(),
@@ -188,7 +202,11 @@ pub fn checker(file: &[u8], out: &mut [u8; 4096]) -> usize
 fn planned(file: &[u8], out: &mut [u8; 4096]) -> Result<usize, Refusal>
     ensures { Planned file.now out.old result out.new }
 {
-    let held = Held::read(file)?;
+    let mut old = [0; 512];
+    let mut new = [0; 512];
+    let mut ids = [0; 4096];
+    let mut sizes = [0; 2048];
+    let held = Held::read(file, &mut old, &mut new, &mut ids, &mut sizes)?;
     let (old, new, mode) = (held.old_route(), held.new_route(), held.content.mode);
     let mut ids = [0; 1024];
     let mut sizes = [0; 1024];

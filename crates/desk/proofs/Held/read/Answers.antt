@@ -14,4 +14,6 @@ invariant_of-result c =
     }
 
 pub returns-clause-held : goal.returns-clause-held
-returns-clause-held c = read_content (rw c.in_ok-content.was at c.read.ensures)
+returns-clause-held c =
+    let q = c.requires in
+    read_content (rw (q.old, q.new, q.ids, q.sizes, c.in_ok-content.was) at c.read.ensures)
