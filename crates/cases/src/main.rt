@@ -9,7 +9,7 @@ use house::{Refusal, Told, entry};
 use routes::jump::{NodeJumps, jumps, letter};
 use routes::pair::judge;
 use routes::walk::{Walked, walk};
-use std::io;
+use std::fmt::Display;
 use std::io::Write;
 
 // Answers whole requests, until one is missing; a million at most, so that the program ends.
@@ -20,12 +20,12 @@ fn main(rt: HostRuntime) {
         if got < 2048 {
             return;
         }
-        let _ = answer(&mut rt.stdout(), &frame);
+        answer(&mut rt.stdout(), &frame);
     }
 }
 
 // Answers one request.
-fn answer<W: Write>(out: &mut W, frame: &[u8]) -> io::Result<()> {
+fn answer<W: Write>(out: &mut W, frame: &[u8]) {
     let node = entry(frame, 1);
     let old = part(frame, 16, entry(frame, 2));
     let new = part(frame, 640, entry(frame, 3));
@@ -33,7 +33,7 @@ fn answer<W: Write>(out: &mut W, frame: &[u8]) -> io::Result<()> {
     // Kept: a number, since an enum would need a conversion as long as this match.
     match entry(frame, 0) {
         1 => match judge(old, new) {
-            Ok(()) => writeln!(out, "good"),
+            Ok(()) => say(out, "good"),
             Err(r) => refused(out, r),
         },
         2 => match jumps(old, new, node) {
@@ -41,12 +41,13 @@ fn answer<W: Write>(out: &mut W, frame: &[u8]) -> io::Result<()> {
             Err(r) => refused(out, r),
         },
         _ => match walk(old, new, set) {
-            Ok(Walked::Arrived(hops)) => writeln!(out, "arrived {hops}"),
-            Ok(Walked::Dropped(node, hops)) => writeln!(out, "dropped {node} {hops}"),
-            Ok(Walked::Looped(node, hops)) => writeln!(out, "looped {node} {hops}"),
+            Ok(Walked::Arrived(hops)) => reply(out, "arrived", &[hops]),
+            Ok(Walked::Dropped(node, hops)) => reply(out, "dropped", &[node, hops]),
+            Ok(Walked::Looped(node, hops)) => reply(out, "looped", &[node, hops]),
             Err(r) => refused(out, r),
         },
     }
+    say(out, "\n");
 }
 
 // The `size` bytes of a request from `at`; none where it has not as many.
@@ -55,19 +56,37 @@ fn part(frame: &[u8], at: usize, size: u16) -> &[u8] {
     tail.get(..usize::from(size)).unwrap_or(&[])
 }
 
-// Two jumps, each with a sign where it goes backward, and their letters.
-fn both_jumps<W: Write>(out: &mut W, by: NodeJumps) -> io::Result<()> {
-    let old_order = by.old_order;
-    let new_order = by.new_order;
-    let old_letter = char::from(letter(old_order));
-    let new_letter = char::from(letter(new_order));
-    writeln!(
-        out,
-        "jumps {old_order} {new_order} {old_letter}{new_letter}"
-    )
+// Two jumps, and their letters.
+fn both_jumps<W: Write>(out: &mut W, by: NodeJumps) {
+    say(out, "jumps");
+    signed(out, by.old_order);
+    signed(out, by.new_order);
+    say(out, " ");
+    say(out, char::from(letter(by.old_order)));
+    say(out, char::from(letter(by.new_order)));
 }
 
-fn refused<W: Write>(out: &mut W, r: Refusal) -> io::Result<()> {
+// A jump, with its sign where it goes backward.
+fn signed<W: Write>(out: &mut W, jump: i32) {
+    say(out, if jump < 0 { " -" } else { " " });
+    say(out, jump.unsigned_abs());
+}
+
+fn refused<W: Write>(out: &mut W, r: Refusal) {
     let told = Told::from(r);
-    writeln!(out, "NO {told}")
+    reply(out, "NO", &[told.number, told.site, told.place]);
+}
+
+// A word, and numbers after it.
+fn reply<W: Write>(out: &mut W, word: &str, numbers: &[usize]) {
+    say(out, word);
+    for n in numbers {
+        say(out, " ");
+        say(out, n);
+    }
+}
+
+// Each piece of a line is a write of its own, so that a write that fails loses its piece alone.
+fn say<W: Write, T: Display + Drop>(out: &mut W, piece: T) {
+    let _ = write!(out, "{piece}");
 }
