@@ -58,6 +58,7 @@ impl<'a> Held<'a> {
     }
 
     // The old route.
+    // Kept: here and below a name for the reference, since the borrow checker doesn't cover `&self.old[..]`.
     fn old_route(&self) -> &[u8]
         ensures { result.now ≡ take (2 * self.now.content.olds) self.now.old.now }
     {

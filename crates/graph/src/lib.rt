@@ -122,8 +122,11 @@ impl<'a> Search<'a> {
         requires room { Room self.old.seen.now self.old.queue.items.now self.old.queue.tail }
         requires empty { (self.old.queue.head ≡ 0) × (self.old.queue.tail ≡ 0) }
         requires callable { F.IsAlwaysCallable enough }
-        ensures reached { (w : _) → get_or self.new.seen.now w false ≡ true → Path (Steps graph.now.old.now graph.now.new.now graph.now.choice.now) w start }
-        ensures all { Reached graph.now.old.now graph.now.new.now graph.now.choice.now start self.new.seen.now ⊎ FnReturnsAt F.Fn enough self.new.seen.now true }
+        ensures reached { (w : _)
+            → get_or self.new.seen.now w false ≡ true
+            → Path (Steps graph.now.old.now graph.now.new.now graph.now.choice.now) w start }
+        ensures all { Reached graph.now.old.now graph.now.new.now graph.now.choice.now start self.new.seen.now
+            ⊎ FnReturnsAt F.Fn enough self.new.seen.now true }
     {
         self.visit(start);
         while let Some(v) = self.queue.pop() {
@@ -243,6 +246,7 @@ impl Graph<'_> {
     }
 
     // The marks of all numbers below 514 to which a path from start leads: nodes, 512 for nothing and 513 for handed off.
+    #[tactic(auto, using(crate::proofs::SearchLaws::room_begins))]
     pub fn reach(&self, start: usize) -> [bool; 514]
         ensures { Reached self.now.old.now self.now.new.now self.now.choice.now start result }
     {
@@ -255,6 +259,7 @@ impl Graph<'_> {
 
     // Whether a path leads from `from` to the number `to`; to a number over 513 it says no. It takes no longer than the search
     // needs to come there.
+    #[tactic(auto, using(crate::proofs::SearchLaws::room_begins))]
     pub fn leads(&self, from: usize, to: usize) -> bool
         ensures { Leads self.now.old.now self.now.new.now self.now.choice.now from to result }
     {

@@ -122,7 +122,7 @@ pub fn put_word(b: &mut [u8], i: usize, x: u64)
 }
 
 // Copies the bytes of `from` into `to`, from the offset `at` on; those for which `to` is too short are left out.
-// Kept: a loop and not `copy_from_slice`, which calls memmove, a name that the archives for C don't want, and even for no bytes.
+// Kept: a loop and not `copy_from_slice`, which calls memmove, also for no bytes; no archive for C needs that name otherwise.
 #[tactic(auto, using(crate::proofs::StoreLaws::sets_more, crate::proofs::StoreLaws::sets_part))]
 pub fn store(to: &mut [u8], at: usize, from: &[u8])
     ensures { to.new ≡ sets to.old at from.now }

@@ -1,6 +1,0 @@
--- `graph::Graph::leads` meets its contract: the search begins with nothing marked.
-use Rattle.graph.proofs.SearchLaws.{room_begins}
-use Rattle.graph.proofs.Graph.leads.Goals as goal
-
-pub new-search-requires : goal.new-search-requires
-new-search-requires c = room_begins
